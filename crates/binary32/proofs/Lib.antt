@@ -1,0 +1,12 @@
+pub mod Errors
+pub mod Values
+pub mod Units
+pub mod Near
+pub mod Held
+pub mod Means
+pub mod Signs
+pub mod Nodes
+pub mod Compared
+pub mod Terms
+pub mod Tetrahedron
+pub mod Differences

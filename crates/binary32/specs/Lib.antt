@@ -1,0 +1,5 @@
+pub mod Numbers
+pub mod Range
+pub mod Within
+pub mod Same
+pub mod Blend

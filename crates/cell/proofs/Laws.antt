@@ -1,0 +1,117 @@
+-- What callers may rely on of a cell, for any size g that a byte holds. (At g = 0 the cell is that of g = 1.)
+-- `low-on-grid`, `high-on-grid`: both nodes are at most g - 1, in order, and the weight is from +0 up and below 1.
+-- `low-line`, `high-line`: where the product is grid line k, the lower node is k and the weight is +0, and for inks 1 to 4 the upper node is k too.
+-- `line-of-weight`: a weight of +0 says that the product is a grid line. `low-one`, `high-one`: with one line a cell is node 0 with weight +0.
+-- Assumes nothing.
+use mathlib.Core.Path.{_≡_, sym, ap, _∙_}
+use Prim.Native.Nat.{ℕ, _+_, _-_, _*_, _/_, _%_, _<_}
+use native.Mathlib.Nat.{le-refl, le-trans, le-of-eq, lt-of-lt-of-le, lt-of-le-of-lt, zero-lt-suc, zero-mul, mul-one, add-zero, sub-self, div-add-mod'}
+use mathlib.Core.Bool.{false}
+use borrow.Author.Tests.{le-ltb}
+use lib.Arith.{le-zero}
+use lib.IntN.{pos}
+use lib.Dec.{T, lit≤, lit<}
+use lib.Ieee.{Float, binary32, round, lt, sub, fits, ofInt}
+use lib.Ieee.Exact.{HasValue}
+use lib.Ieee.Back.{whole-unique}
+use lib.Ieee.Fits.{ofInt-fits}
+use lib.Ieee.Positive.{num, den, den-pos}
+use Rattle.binary32.specs.Range.{UpTo}
+use Rattle.binary32.specs.Numbers.{plusZero}
+use Rattle.cell.specs.Rule.{OnGrid, line, productOf, wholeOf, upOf, weightOf, nextOf, cellLow, cellHigh}
+use Rattle.binary32.proofs.Values.{lt-is, sub-values, zero-value, round-zero, upTo-own, below-value, revalue}
+use Rattle.cell.proofs.Within.{last, line-is, product-upTo, product-fits, in-grid, whole-le, up-le, whole-le-up, weight-value, weight-below, whole-div, next-le, whole-le-next, whole-line}
+
+-- ---- both nodes and the weight
+module _ (x : Float) (g : ℕ) (G : g < 256) where
+  pub low-on-grid : OnGrid (g - 1) (cellLow x g)
+  unfolding cellLow
+  low-on-grid =
+      let p = productOf x g in
+      let n = g - 1 in
+      let l = last g G in
+      let u = product-upTo x g G in
+      record {
+        lower = whole-le n p l u;
+        upper = up-le n p l u;
+        ordered = whole-le-up n p l u;
+        weight = weight-below n p l u (product-fits x g);
+      }
+
+  pub high-on-grid : OnGrid (g - 1) (cellHigh x g)
+  unfolding cellHigh
+  high-on-grid =
+      let p = productOf x g in
+      let n = g - 1 in
+      let l = last g G in
+      let u = product-upTo x g G in
+      let h = in-grid n p l u in
+      record {
+        lower = whole-le n p l u;
+        upper = next-le p h g G;
+        ordered = whole-le-next p h g G (whole-le n p l u);
+        weight = weight-below n p l u (product-fits x g);
+      }
+
+-- ---- on a grid line
+module _ (k : ℕ) (K : k < 256) where
+  not-above : lt (line k) (line k) ≡ false
+  not-above = lt-is (line k) (line k) k 1 k 1 (zero-lt-suc 0) (zero-lt-suc 0) (line-is k K) (line-is k K) ∙ le-ltb (k * 1) (k * 1) (le-refl (k * 1))
+
+  up-line : upOf (line k) ≡ k
+  unfolding upOf
+  up-line = simp (whole-line k K, not-above) (add-zero k)
+
+  weight-line : weightOf (line k) ≡ plusZero
+  unfolding weightOf
+  weight-line =
+      ap (λ (j : ℕ). sub binary32 (line k) (line j)) (whole-line k K)
+      ∙ sub-values binary32 (line k) (line k) k 1 k 1 (zero-lt-suc 0) (zero-lt-suc 0) (line-is k K) (line-is k K) (le-refl (k * 1))
+      ∙ ap (λ (d : ℕ). round binary32 false d 1) (sub-self (k * 1))
+      ∙ round-zero binary32
+
+  pub low-line : (x : Float) (g : ℕ) → productOf x g ≡ line k → cellLow x g ≡ record { x = k; «x_n» = k; w = plusZero }
+  unfolding cellLow
+  low-line x g e = simp (e, whole-line k K, up-line, weight-line)
+
+  pub high-line : (x : Float) (g : ℕ) → productOf x g ≡ line k → cellHigh x g ≡ record { x = k; «x_n» = nextOf (line k) g; w = plusZero }
+  unfolding cellHigh
+  high-line x g e = simp (e, whole-line k K, weight-line)
+
+-- ---- a weight of +0
+nothing-left : (r c : ℕ) → HasValue plusZero false r c → r ≡ 0
+nothing-left r c v = sym (mul-one r) ∙ sym (v .1) ∙ zero-mul c
+
+all-whole : (a c : ℕ) → a % c ≡ 0 → a * 1 ≡ a / c * c
+all-whole a c e = mul-one a ∙ sym (div-add-mod' a c) ∙ ap (λ (r : ℕ). a / c * c + r) e ∙ add-zero (a / c * c)
+
+pub line-of-weight : (x : Float) (g : ℕ) → g < 256 → weightOf (productOf x g) ≡ plusZero → productOf x g ≡ line (wholeOf (productOf x g))
+line-of-weight x g G e =
+    let p = productOf x g in
+    let n = g - 1 in
+    let l = last g G in
+    let u = product-upTo x g G in
+    let k = num p / den p in
+    let z : num p % den p ≡ 0 = nothing-left (num p % den p) (den p) (rw e at (weight-value n p l u (product-fits x g))) in
+    let K : k < 256 = lt-of-le-of-lt (le-of-eq (sym (whole-div n p l u))) (lt-of-le-of-lt (whole-le n p l u) (lt-of-lt-of-le l (lit≤ tt))) in
+    whole-unique binary32 p (line k) false k (product-fits x g) (ofInt-fits binary32 (pos k)) (revalue p (num p) (den p) k 1 (den-pos p) (all-whole (num p) (den p) z) (upTo-own n p u .0)) (line-is k K)
+    ∙ ap line (sym (whole-div n p l u))
+
+-- ---- one line
+none-at-all : (p : Float) → T (fits binary32 p) → UpTo 0 p → p ≡ plusZero
+none-at-all p F u =
+    let o = upTo-own 0 p u in
+    zero-value binary32 p (den p) (den-pos p) F (rw (le-zero (le-trans (o .1) (le-of-eq (zero-mul (den p))))) at (o .0))
+
+line-zero : line 0 ≡ plusZero
+unfolding ofInt
+line-zero = round-zero binary32
+
+one-line : (x : Float) → productOf x 1 ≡ line 0
+one-line x = none-at-all (productOf x 1) (product-fits x 1) (product-upTo x 1 (lit< tt)) ∙ sym line-zero
+
+pub low-one : (x : Float) → cellLow x 1 ≡ record { x = 0; «x_n» = 0; w = plusZero }
+low-one x = low-line 0 (lit< tt) x 1 (one-line x)
+
+pub high-one : (x : Float) → cellHigh x 1 ≡ record { x = 0; «x_n» = 0; w = plusZero }
+high-one x = high-line 0 (lit< tt) x 1 (one-line x) ∙ ap (λ (k : ℕ). record { x = 0; «x_n» = k; w = plusZero }) (le-zero (next-le (line 0) (below-value (line 0) 255 0 1 (line-is 0 (lit< tt)) (lit< tt)) 1 (lit< tt)))

@@ -1,0 +1,114 @@
+// Finding the cell of one ink: which two grid lines an input lies between, and how far along.
+ghost use mathlib.Core.Path.{_≡_};
+ghost use Rattle.binary32.specs.Range.{Below};
+ghost use Rattle.cell.specs.Rule.{clipOf, wholeOf, upOf, nextOf, scaleOf, smallerOf, productOf, cellAt, cellLow, cellHigh};
+
+// One axis of a cell: the lower node, the upper node, and the weight of the upper one.
+pub struct Cell {
+    pub x: usize,
+    pub x_n: usize,
+    pub w: f32,
+}
+
+// Above 1 is 1, above 0 is itself, and all else, NaN and both zeros included, is +0.0.
+pub fn clip(x: f32) -> f32
+    ensures { λ r. ⌜ r ≡ clipOf x ⌝ }
+{
+    if x > 1.0 {
+        return 1.0;
+    }
+    if x > 0.0 {
+        return x;
+    }
+    0.0
+}
+
+// The whole part of a product: how many grid lines from 1 up it reaches.
+fn whole_part(p: f32) -> usize
+    requires { ⌜ Below 255 p ⌝ }
+    ensures { λ r. ⌜ r ≡ wholeOf p ⌝ }
+{
+    let mut k: u16 = 0;
+    while (k + 1) as f32 <= p {
+        k += 1;
+    }
+    k as usize
+}
+
+// A product rounded up to a whole number.
+fn round_up(p: f32) -> usize
+    requires { ⌜ Below 255 p ⌝ }
+    ensures { λ r. ⌜ r ≡ upOf p ⌝ }
+{
+    let k = whole_part(p);
+    if (k as f32) < p {
+        return k + 1;
+    }
+    k
+}
+
+// g - 1 as a float, the last grid line. (No grid has size 0; one that had would count as size 1.)
+fn scale(g: u8) -> f32
+    ensures { λ r. ⌜ r ≡ scaleOf g ⌝ }
+{
+    if g == 0 {
+        return 0.0;
+    }
+    (g - 1) as f32
+}
+
+// The product that decides the cell: the clipped input times g - 1, rounded. It is below 255.
+fn product(x: f32, g: u8) -> f32
+    ensures { λ r. ⌜ r ≡ productOf x g ⌝ }
+    ensures ranged { λ r. ⌜ Below 255 r ⌝ }
+{
+    clip(x) * scale(g)
+}
+
+// The cell of a product whose upper node is known.
+fn cell_at(p: f32, upper: usize) -> Cell
+    requires { ⌜ Below 255 p ⌝ }
+    ensures { λ r. ⌜ r ≡ cellAt p upper ⌝ }
+{
+    let lower = whole_part(p);
+    Cell {
+        x: lower,
+        x_n: upper,
+        w: p - (lower as f32),
+    }
+}
+
+// The cell of an ink from 1 to 4: the upper node is the product rounded up.
+pub fn cell_low(x: f32, g: u8) -> Cell
+    ensures { λ r. ⌜ r ≡ cellLow x g ⌝ }
+{
+    let p = product(x, g);
+    cell_at(p, round_up(p))
+}
+
+// The smaller of two floats, the second where neither is below the other.
+fn smaller(a: f32, b: f32) -> f32
+    ensures { λ r. ⌜ r ≡ smallerOf a b ⌝ }
+{
+    if a < b {
+        return a;
+    }
+    b
+}
+
+// The upper node of an ink from 5 up: the whole part of the product plus 1, rounded, and never past
+// the last line.
+fn next_node(p: f32, g: u8) -> usize
+    requires { ⌜ Below 255 p ⌝ }
+    ensures { λ r. ⌜ r ≡ nextOf p g ⌝ }
+{
+    whole_part(smaller(p + 1.0, scale(g)))
+}
+
+// The cell of an ink from 5 up: the upper node is the next one.
+pub fn cell_high(x: f32, g: u8) -> Cell
+    ensures { λ r. ⌜ r ≡ cellHigh x g ⌝ }
+{
+    let p = product(x, g);
+    cell_at(p, next_node(p, g))
+}

@@ -1,0 +1,6 @@
+pub mod Parts
+pub mod Accepted
+pub mod Order
+pub mod Laws
+pub mod Unique
+pub mod Checked

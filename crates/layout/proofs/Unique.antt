@@ -1,0 +1,32 @@
+-- Each public function asks nothing of its caller, and its statement leaves one outcome.
+-- Assumes nothing.
+use mathlib.Core.Path.{_≡_, refl, sym, _∙_}
+use Rattle.outcome.specs.Outcome.{OneOutcome}
+use Rattle.outcome.proofs.Decided.{decided}
+use Rattle.layout.proofs.layout.Kinds as layout-kinds
+use Rattle.layout.proofs.layout.Reads as layout-reads
+use Rattle.layout.proofs.is_layout.Kinds as is-layout-kinds
+use Rattle.layout.proofs.is_layout.Reads as is-layout-reads
+use Rattle.layout.proofs.entry_count.Kinds as entry-count-kinds
+use Rattle.layout.proofs.entry_count.Reads as entry-count-reads
+use Rattle.layout.proofs.entry_offset.Kinds as entry-offset-kinds
+use Rattle.layout.proofs.entry_offset.Reads as entry-offset-reads
+
+pub layout-unique : OneOutcome 0 layout-kinds.ps layout-kinds.r layout-reads.Post
+layout-unique κs a x y ws vs p q = (p ∙ sym q, refl)
+
+pub is-layout-unique : OneOutcome 0 is-layout-kinds.ps is-layout-kinds.r is-layout-reads.Post
+is-layout-unique κs a x y ws vs p q = (decided x y p q, refl)
+
+pub entry-count-unique : OneOutcome 0 entry-count-kinds.ps entry-count-kinds.r entry-count-reads.Post
+entry-count-unique κs a x y ws vs p q = (p ∙ sym q, refl)
+
+pub entry-offset-unique : OneOutcome 0 entry-offset-kinds.ps entry-offset-kinds.r entry-offset-reads.Post
+entry-offset-unique κs a x y ws vs p q = ((λ i. record { 0 = (p ∙ sym q) i }), refl)
+
+-- no `requires`
+pub layout-asks-nothing : (κs : _) (a : _) → layout-reads.Pre κs a
+layout-asks-nothing κs a = tt
+
+pub is-layout-asks-nothing : (κs : _) (a : _) → is-layout-reads.Pre κs a
+is-layout-asks-nothing κs a = tt

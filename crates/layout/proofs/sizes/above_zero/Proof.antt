@@ -1,0 +1,64 @@
+-- `layout::sizes::above_zero` meets its contract: every size passed is above 0.
+-- Assumes nothing.
+use Prim.Native.Nat.{ℕ, _-_, _≤_, _<_}
+use mathlib.Core.Path.{_≡_, sym}
+use mathlib.Core.Bool.{true}
+use native.Mathlib.Nat.{pos-of-ne-zero}
+use native.Mathlib.Omega.{arith}
+use lib.Dec.{ltb}
+use lib.ListN.{getD}
+use borrow.Author.Needs.{needs}
+use borrow.Author.Count.{below-none, below-more}
+use borrow.Author.Tests.{lt-ltb, le-ltb}
+use Rattle.lists.proofs.Lists.{first-every, first-fails}
+use Rattle.layout.proofs.sizes.above_zero.Statement.{statement}
+use Rattle.layout.proofs.sizes.above_zero.Tie as tie
+
+abbrev Inv-loop : tie.InvT-loop
+Inv-loop n sizes i₀ i = (i ≤ n) × ((k : ℕ) → k < i → ltb 0 (getD sizes k 0) ≡ true)
+
+abbrev μ-loop : tie.MeasureT-loop
+μ-loop n sizes i₀ i = n - i
+
+loop-holds : tie.Need-loop-holds Inv-loop μ-loop
+loop-holds c = (search needs, below-none _)
+
+array-read-if1 : tie.Need-array-read-if1 Inv-loop μ-loop
+array-read-if1 c = search needs
+
+returns : tie.Need-returns Inv-loop μ-loop
+returns c =
+    let n = c .before .before .before .args .n in
+    let sizes = c .before .before .before .args .t1 in
+    let i = c .before .before .loop .i in
+    sym (first-fails (ltb 0) sizes n (omega arith) i (omega arith) (le-ltb 0 (getD sizes i 0) (omega arith)))
+
+add-i : tie.Need-add-i Inv-loop μ-loop
+add-i c = search needs
+
+loop-less : tie.Need-loop-less Inv-loop μ-loop
+loop-less c = search needs
+
+loop-again : tie.Need-loop-again Inv-loop μ-loop
+loop-again c =
+    (search needs, below-more _ _ (c .before .before .loop .inv .1) (lt-ltb 0 _ (pos-of-ne-zero (c .if1 .left))))
+
+returns-2 : tie.Need-returns-2 Inv-loop μ-loop
+returns-2 c =
+    let n = c .before .before .args .n in
+    let sizes = c .before .before .args .t1 in
+    sym (first-every (ltb 0) sizes n (omega arith) (λ k h. c .before .loop .inv .1 k (omega arith)))
+
+pub above-zero-spec : {M : Type 1} → statement M
+above-zero-spec =
+    tie.close
+    (tie.spec
+    Inv-loop
+    μ-loop
+    loop-holds
+    array-read-if1
+    returns
+    add-i
+    loop-less
+    loop-again
+    returns-2)

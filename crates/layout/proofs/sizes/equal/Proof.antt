@@ -1,0 +1,74 @@
+-- `layout::sizes::equal` meets its contract: every size passed is the first of those in use.
+-- Assumes nothing.
+use Prim.Native.Nat.{ℕ, _-_, _≤_, _<_}
+use mathlib.Core.Path.{_≡_, sym, _∙_}
+use mathlib.Core.Bool.{true}
+use native.Mathlib.Omega.{arith}
+use lib.Dec.{eqb}
+use lib.ListN.{getD, take}
+use lib.Seq.{getD-take}
+use borrow.Author.Needs.{needs}
+use borrow.Author.Count.{below-none, below-more}
+use borrow.Author.Tests.{eq-eqb, ne-eqb}
+use Rattle.layout.specs.Layout.{common}
+use Rattle.lists.proofs.Lists.{first-every, first-fails}
+use Rattle.layout.proofs.sizes.equal.Statement.{statement}
+use Rattle.layout.proofs.sizes.equal.Tie as tie
+
+abbrev Inv-loop : tie.InvT-loop
+Inv-loop n sizes i₀ i = (i ≤ n) × ((k : ℕ) → k < i → eqb (common (take n sizes)) (getD sizes k 0) ≡ true)
+
+abbrev μ-loop : tie.MeasureT-loop
+μ-loop n sizes i₀ i = n - i
+
+loop-holds : tie.Need-loop-holds Inv-loop μ-loop
+loop-holds c = (search needs, below-none _)
+
+array-read-if1 : tie.Need-array-read-if1 Inv-loop μ-loop
+array-read-if1 c = search needs
+
+array-read-if1-2 : tie.Need-array-read-if1-2 Inv-loop μ-loop
+array-read-if1-2 c = search needs
+
+-- in the loop some size is in use, so the first in use is the first
+first : (c : tie.In-loop Inv-loop μ-loop) → common (take (c .before .before .args .n) (c .before .before .args .t1)) ≡ getD (c .before .before .args .t1) 0 0
+first c = getD-take (c .before .before .args .n) (c .before .before .args .t1) 0 0 (omega arith)
+
+returns : tie.Need-returns Inv-loop μ-loop
+returns c =
+    let n = c .before .before .before .args .n in
+    let sizes = c .before .before .before .args .t1 in
+    let i = c .before .before .loop .i in
+    sym (first-fails (eqb (common (take n sizes))) sizes n (omega arith) i (omega arith)
+    (ne-eqb _ _ (λ e. c .if1 .taken (sym e ∙ first (c .before)))))
+
+add-i : tie.Need-add-i Inv-loop μ-loop
+add-i c = search needs
+
+loop-less : tie.Need-loop-less Inv-loop μ-loop
+loop-less c = search needs
+
+loop-again : tie.Need-loop-again Inv-loop μ-loop
+loop-again c =
+    (search needs, below-more _ _ (c .before .before .loop .inv .1) (eq-eqb _ _ (first (c .before) ∙ sym (c .if1 .left))))
+
+returns-2 : tie.Need-returns-2 Inv-loop μ-loop
+returns-2 c =
+    let n = c .before .before .args .n in
+    let sizes = c .before .before .args .t1 in
+    sym (first-every (eqb (common (take n sizes))) sizes n (omega arith) (λ k h. c .before .loop .inv .1 k (omega arith)))
+
+pub equal-spec : {M : Type 1} → statement M
+equal-spec =
+    tie.close
+    (tie.spec
+    Inv-loop
+    μ-loop
+    loop-holds
+    array-read-if1
+    array-read-if1-2
+    returns
+    add-i
+    loop-less
+    loop-again
+    returns-2)

@@ -1,0 +1,155 @@
+// Sizes, strides and the layout record: document 01. The meaning is in specs/Layout.antt.
+mod same;
+mod sizes;
+
+ghost use mathlib.Core.Path.{_≡_};
+ghost use mathlib.Core.Bool.{true};
+ghost use Prim.Native.Nat.{_*_, _≤_};
+ghost use lib.ListN.{take, getD};
+ghost use lib.Dec.{ltb};
+ghost use Rattle.lists.specs.Lists.{every};
+ghost use Rattle.outcome.specs.Outcome.{Decides};
+ghost use Rattle.layout.specs.Layout.{isCount, total, limit, recordOf, refusedBy, laidOf, IsLayout};
+
+// The record of a layout. The strides count nodes, the filling sizes count table entries.
+pub struct MultidimensionalLut {
+    pub grid_strides: [u32; 16],
+    pub grid_filling_size: [u32; 16],
+    pub grid_scale: [f32; 16],
+    pub grid_size: u8,
+    pub input_inks: usize,
+    pub output_inks: usize,
+}
+
+// What a layout answers: 0 and the record, or a refusal and a record of zeros.
+pub struct Laid {
+    pub refusal: u32,
+    pub lut: MultidimensionalLut,
+}
+
+// The number of a node in ICC.1's order.
+pub struct NodeNumber(pub u32);
+
+// The place of a node's first entry in the table.
+pub struct EntryOffset(pub u64);
+
+// A node's m entries stand together. Nothing else turns a node number into an entry offset.
+pub fn entry_offset(node: NodeNumber, m: u32) -> EntryOffset
+    ensures { λ r. ⌜ r .0 ≡ node .0 * m ⌝ }
+{
+    EntryOffset((node.0 as u64) * (m as u64))
+}
+
+// The entries of the whole table, where the record is a layout's.
+pub fn entry_count(lut: MultidimensionalLut) -> u64
+    ensures { λ r. ⌜ r ≡ getD (lut .«grid_filling_size») 0 0 * lut .«grid_size» ⌝ }
+{
+    let filling = lut.grid_filling_size;
+    let size = lut.grid_size;
+    (filling[0] as u64) * (size as u64)
+}
+
+fn refused(number: u32) -> Laid
+    ensures { λ r. ⌜ r ≡ refusedBy number ⌝ }
+{
+    let lut = MultidimensionalLut {
+        grid_strides: [0u32; 16],
+        grid_filling_size: [0u32; 16],
+        grid_scale: [0.0f32; 16],
+        grid_size: 0,
+        input_inks: 0,
+        output_inks: 0,
+    };
+    Laid {
+        refusal: number,
+        lut,
+    }
+}
+
+fn is_count(n: usize) -> bool
+    ensures { λ r. ⌜ r ≡ isCount n ⌝ }
+{
+    if n < 1 {
+        return false;
+    }
+    n <= 15
+}
+
+// The record of sizes that passed every test.
+fn record_of(sizes: [u8; 16], n: usize, m: usize) -> MultidimensionalLut
+    requires { ⌜ isCount n ≡ true ⌝ }
+    requires { ⌜ isCount m ≡ true ⌝ }
+    requires { ⌜ every (ltb 0) (take n sizes) ≡ true ⌝ }
+    requires { ⌜ total (take n sizes) m ≤ limit ⌝ }
+    ensures { λ r. ⌜ r ≡ recordOf (take n sizes) n m ⌝ }
+{
+    let first = sizes[0];
+    let scale = (first - 1) as f32;
+    let mut grid_strides = [1u32; 16];
+    let mut grid_filling_size = [1u32; 16];
+    let mut grid_scale = [0.0f32; 16];
+    let mut i: usize = 0;
+    while i < n {
+        let before = n - i - 1;
+        grid_strides[i] = sizes::capped(sizes, before, 1) as u32;
+        grid_filling_size[i] = sizes::capped(sizes, before, m as u64) as u32;
+        grid_scale[i] = scale;
+        i += 1;
+    }
+    MultidimensionalLut {
+        grid_strides,
+        grid_filling_size,
+        grid_scale,
+        grid_size: first,
+        input_inks: n,
+        output_inks: m,
+    }
+}
+
+// The layout of the first n of sixteen grid sizes, with n input and m output inks.
+pub fn layout(sizes: [u8; 16], n: usize, m: usize) -> Laid
+    ensures { λ r. ⌜ r ≡ laidOf sizes n m ⌝ }
+{
+    if !is_count(n) {
+        return refused(1);
+    }
+    if !is_count(m) {
+        return refused(2);
+    }
+    if !sizes::above_zero(sizes, n) {
+        return refused(3);
+    }
+    if !sizes::equal(sizes, n) {
+        return refused(4);
+    }
+    if sizes::LIMIT < sizes::capped(sizes, n, m as u64) {
+        return refused(5);
+    }
+    let lut = record_of(sizes, n, m);
+    Laid { refusal: 0, lut }
+}
+
+// Whether the record is bit for bit one that an accepted layout gives (refusal 9's test).
+pub fn is_layout(lut: MultidimensionalLut) -> bool
+    ensures { λ r. ⌜ Decides r (IsLayout lut) ⌝ }
+{
+    let size = lut.grid_size;
+    let laid = layout([size; 16], lut.input_inks, lut.output_inks);
+    if laid.refusal != 0 {
+        return false;
+    }
+    let want = laid.lut;
+    let strides = lut.grid_strides;
+    let want_strides = want.grid_strides;
+    if !same::counts(strides, want_strides) {
+        return false;
+    }
+    let filling = lut.grid_filling_size;
+    let want_filling = want.grid_filling_size;
+    if !same::counts(filling, want_filling) {
+        return false;
+    }
+    let scale = lut.grid_scale;
+    let want_scale = want.grid_scale;
+    same::floats(scale, want_scale)
+}

@@ -1,0 +1,57 @@
+// Tests and products over the first sizes.
+ghost use mathlib.Core.Path.{_≡_};
+ghost use Prim.Native.Nat.{_+_, _*_, _≤_, min};
+ghost use lib.ListN.{take, getD};
+ghost use lib.Dec.{ltb, eqb};
+ghost use Rattle.lists.specs.Lists.{every, product};
+ghost use Rattle.layout.specs.Layout.{limit, common};
+
+// The largest total that is accepted.
+pub(crate) const LIMIT: u64 = 4294967295;
+
+// Whether each of the first n sizes is above 0.
+pub(crate) fn above_zero(sizes: [u8; 16], n: usize) -> bool
+    requires { ⌜ n ≤ 16 ⌝ }
+    ensures { λ r. ⌜ r ≡ every (ltb 0) (take n sizes) ⌝ }
+{
+    let mut i: usize = 0;
+    while i < n {
+        if sizes[i] == 0 {
+            return false;
+        }
+        i += 1;
+    }
+    true
+}
+
+// Whether each of the first n sizes is the first.
+pub(crate) fn equal(sizes: [u8; 16], n: usize) -> bool
+    requires { ⌜ n ≤ 16 ⌝ }
+    ensures { λ r. ⌜ r ≡ every (eqb (common (take n sizes))) (take n sizes) ⌝ }
+{
+    let mut i: usize = 0;
+    while i < n {
+        if sizes[i] != sizes[0] {
+            return false;
+        }
+        i += 1;
+    }
+    true
+}
+
+// m times the first n sizes, or LIMIT + 1 where that is above LIMIT: no product on the way overflows.
+pub(crate) fn capped(sizes: [u8; 16], n: usize, m: u64) -> u64
+    requires { ⌜ (n ≤ 16) × (m ≤ limit) ⌝ }
+    ensures { λ r. ⌜ r ≡ min (product (take n sizes) * m) (limit + 1) ⌝ }
+{
+    let mut t = m;
+    let mut i: usize = 0;
+    while i < n {
+        t = t * (sizes[i] as u64);
+        if LIMIT < t {
+            t = LIMIT + 1;
+        }
+        i += 1;
+    }
+    t
+}
