@@ -9,10 +9,9 @@ use lib.Dec.{lit≤}
 use lib.Ieee.{Float, binary32, add, sub, mul}
 use Rattle.binary32.specs.Numbers.{one}
 use Rattle.binary32.specs.Blend.{lerp, along, square}
-use Rattle.binary32.proofs.Units.{U, E, U-is, U-pos, E-pos, mag, plus, less, apart}
+use Rattle.binary32.proofs.Units.{U, E, U-is, U-pos, E-pos, mag, plus, less, apart, one-number}
 use Rattle.binary32.proofs.Near.{add-near, sub-near, mul-near}
 use Rattle.binary32.proofs.Held.{Held, held, size-below, shrunk, mul-weight}
-use Rattle.binary32.proofs.Nodes.{one-number}
 
 -- r = s + q, s = a - p, p = a * t, q = b * t, each off by at most e, in units of which u are 1: r is at most B + 4 * e where a and b are at most B.
 -- A letter with ⁺ less the same with ⁻ is the value, so the other bound is the same law with the two swapped.

@@ -81,7 +81,7 @@ gap : (a b c M N d Q : ℕ) → a * U ≡ M * c → b * U ≡ N * c → b ≡ a 
 gap a b c M N d Q h k e f = omega (arith, ap (λ (x : ℕ). x * U) e, ap (λ (x : ℕ). x * c) f)
 
 -- the difference b / c - a / c for a ≤ b, with either sign
-pub gap-near : (s : Bool) (a b c M N : ℕ) → 0 < c → a * U ≡ M * c → b * U ≡ N * c → a ≤ b → N < M + 4 * U → (N ≡ M + (N - M)) × Rounded (round binary32 s (b - a) c) s 1 (N - M)
+gap-near : (s : Bool) (a b c M N : ℕ) → 0 < c → a * U ≡ M * c → b * U ≡ N * c → a ≤ b → N < M + 4 * U → (N ≡ M + (N - M)) × Rounded (round binary32 s (b - a) c) s 1 (N - M)
 gap-near s a b c M N C h k l small =
     let e = apart M N (less-units a b c M N C h k l) in
     (e, round-near s (b - a) c 1 (N - M) C (gap a b c M N (b - a) (N - M) h k (apart a b l) e) (omega arith))

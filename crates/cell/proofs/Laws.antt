@@ -1,57 +1,72 @@
 -- What callers may rely on of a cell, for any size g that a byte holds. (At g = 0 the cell is that of g = 1.)
 -- `low-on-grid`, `high-on-grid`: both nodes are at most g - 1, in order, and the weight is from +0 up and below 1.
+-- `low-fits`, `high-fits`: the weight is a value of binary32; `low-share`, `high-share`: so it is one from 0 to 1.
 -- `low-line`, `high-line`: where the product is grid line k, the lower node is k and the weight is +0, and for inks 1 to 4 the upper node is k too.
 -- `line-of-weight`: a weight of +0 says that the product is a grid line. `low-one`, `high-one`: with one line a cell is node 0 with weight +0.
 -- Assumes nothing.
-use mathlib.Core.Path.{_≡_, sym, ap, _∙_}
-use Prim.Native.Nat.{ℕ, _+_, _-_, _*_, _/_, _%_, _<_}
+use mathlib.Core.Path.{_≡_, refl, sym, ap, _∙_}
+use Prim.Native.Nat.{ℕ, _+_, _-_, _*_, _/_, _%_, _≤_, _<_}
 use native.Mathlib.Nat.{le-refl, le-trans, le-of-eq, lt-of-lt-of-le, lt-of-le-of-lt, zero-lt-suc, zero-mul, mul-one, add-zero, sub-self, div-add-mod'}
 use mathlib.Core.Bool.{false}
 use borrow.Author.Tests.{le-ltb}
 use lib.Arith.{le-zero}
 use lib.IntN.{pos}
 use lib.Dec.{T, lit≤, lit<}
-use lib.Ieee.{Float, binary32, round, lt, sub, fits, ofInt}
+use lib.Ieee.{Float, binary32, lt, sub, fits, ofInt}
 use lib.Ieee.Exact.{HasValue}
 use lib.Ieee.Back.{whole-unique}
-use lib.Ieee.Fits.{ofInt-fits}
+use lib.Ieee.Fits.{sub-fits, ofInt-fits}
 use lib.Ieee.Positive.{num, den, den-pos}
-use Rattle.binary32.specs.Range.{UpTo}
+use Rattle.binary32.specs.Range.{UpTo, Share}
 use Rattle.binary32.specs.Numbers.{plusZero}
-use Rattle.cell.specs.Rule.{OnGrid, line, productOf, wholeOf, upOf, weightOf, nextOf, cellLow, cellHigh}
-use Rattle.binary32.proofs.Values.{lt-is, sub-values, zero-value, round-zero, upTo-own, below-value, revalue}
+use Rattle.binary32.proofs.Values.{lt-is, sub-values, zero-value, revalue}
+use Rattle.binary32.proofs.Exact.{round-zero}
+use Rattle.binary32.proofs.Ranges.{upTo-own, below-value, below-share}
+use Rattle.cell.specs.Rule.{OnGrid, line, productOf, wholeOf, upOf, weightOf, nextOf, cellAt, cellLow, cellHigh}
 use Rattle.cell.proofs.Within.{last, line-is, product-upTo, product-fits, in-grid, whole-le, up-le, whole-le-up, weight-value, weight-below, whole-div, next-le, whole-le-next, whole-line}
 
 -- ---- both nodes and the weight
 module _ (x : Float) (g : ℕ) (G : g < 256) where
+  -- the cell of the product, with an upper node from the lower one to g - 1
+  on-grid : (upper : ℕ) → upper ≤ g - 1 → wholeOf (productOf x g) ≤ upper → OnGrid (g - 1) (cellAt (productOf x g) upper)
+  on-grid upper h k =
+      let p = productOf x g in
+      record {
+        lower = whole-le (g - 1) p (last g G) (product-upTo x g G);
+        upper = h;
+        ordered = k;
+        weight = weight-below (g - 1) p (last g G) (product-upTo x g G) (product-fits x g);
+      }
+
   pub low-on-grid : OnGrid (g - 1) (cellLow x g)
   unfolding cellLow
-  low-on-grid =
-      let p = productOf x g in
-      let n = g - 1 in
-      let l = last g G in
-      let u = product-upTo x g G in
-      record {
-        lower = whole-le n p l u;
-        upper = up-le n p l u;
-        ordered = whole-le-up n p l u;
-        weight = weight-below n p l u (product-fits x g);
-      }
+  low-on-grid = let p = productOf x g in on-grid (upOf p) (up-le (g - 1) p (last g G) (product-upTo x g G)) (whole-le-up (g - 1) p (last g G) (product-upTo x g G))
 
   pub high-on-grid : OnGrid (g - 1) (cellHigh x g)
   unfolding cellHigh
   high-on-grid =
       let p = productOf x g in
-      let n = g - 1 in
-      let l = last g G in
-      let u = product-upTo x g G in
-      let h = in-grid n p l u in
-      record {
-        lower = whole-le n p l u;
-        upper = next-le p h g G;
-        ordered = whole-le-next p h g G (whole-le n p l u);
-        weight = weight-below n p l u (product-fits x g);
-      }
+      let h = in-grid (g - 1) p (last g G) (product-upTo x g G) in
+      on-grid (nextOf p g) (next-le p h g G) (whole-le-next p h g G (whole-le (g - 1) p (last g G) (product-upTo x g G)))
+
+-- ---- the weight is a binary32 value from 0 to 1
+weight-fits : (p : Float) → T (fits binary32 (weightOf p))
+unfolding weightOf
+weight-fits p = sub-fits binary32 p (line (wholeOf p))
+
+pub low-fits : (x : Float) (g : ℕ) → T (fits binary32 (cellLow x g .w))
+unfolding cellLow
+low-fits x g = weight-fits (productOf x g)
+
+pub high-fits : (x : Float) (g : ℕ) → T (fits binary32 (cellHigh x g .w))
+unfolding cellHigh
+high-fits x g = weight-fits (productOf x g)
+
+pub low-share : (x : Float) (g : ℕ) → g < 256 → Share (cellLow x g .w)
+low-share x g G = below-share (cellLow x g .w) (low-fits x g) (low-on-grid x g G .weight)
+
+pub high-share : (x : Float) (g : ℕ) → g < 256 → Share (cellHigh x g .w)
+high-share x g G = below-share (cellHigh x g .w) (high-fits x g) (high-on-grid x g G .weight)
 
 -- ---- on a grid line
 module _ (k : ℕ) (K : k < 256) where
@@ -67,8 +82,7 @@ module _ (k : ℕ) (K : k < 256) where
   weight-line =
       ap (λ (j : ℕ). sub binary32 (line k) (line j)) (whole-line k K)
       ∙ sub-values binary32 (line k) (line k) k 1 k 1 (zero-lt-suc 0) (zero-lt-suc 0) (line-is k K) (line-is k K) (le-refl (k * 1))
-      ∙ ap (λ (d : ℕ). round binary32 false d 1) (sub-self (k * 1))
-      ∙ round-zero binary32
+      ∙ round-zero binary32 false (k * 1 - k * 1) 1 (sub-self (k * 1)) (zero-lt-suc 0)
 
   pub low-line : (x : Float) (g : ℕ) → productOf x g ≡ line k → cellLow x g ≡ record { x = k; «x_n» = k; w = plusZero }
   unfolding cellLow
@@ -105,7 +119,7 @@ none-at-all p F u =
 
 line-zero : line 0 ≡ plusZero
 unfolding ofInt
-line-zero = round-zero binary32
+line-zero = round-zero binary32 false 0 1 refl (zero-lt-suc 0)
 
 one-line : (x : Float) → productOf x 1 ≡ line 0
 one-line x = none-at-all (productOf x 1) (product-fits x 1) (product-upTo x 1 (lit< tt)) ∙ sym line-zero

@@ -1,9 +1,8 @@
 -- The product p of a clipped input and g - 1 lies from +0 up to g - 1, and what follows for its whole part, p rounded up, p + 1 cut to g - 1, and the weight.
 -- Assumes nothing.
-use mathlib.Core.Path.{_≡_, refl, sym, ap, _∙_, subst}
+use mathlib.Core.Path.{_≡_, refl, sym, _∙_, subst}
 use Prim.Native.Nat.{ℕ, suc, _+_, _-_, _*_, _/_, _%_, _^_, _≤_, _<_}
-use native.Mathlib.Nat.{le-refl, le-trans, le-of-eq, le-of-lt, le-of-suc-le-suc, lt-of-lt-of-le, lt-of-le-of-lt, zero-lt-suc, le-add-right, add-zero, mul-one, one-mul, mul-comm, mul-le-mul-right, lt-of-mul-lt-mul-right, div-mul-le-self, le-div-iff-mul-le, mod-lt, mul-pos}
-use native.Mathlib.Numerals.{add-one-le}
+use native.Mathlib.Nat.{le-refl, le-trans, le-of-eq, le-of-lt, le-of-suc-le-suc, lt-of-lt-of-le, zero-lt-suc, le-add-right, mul-one, one-mul, mul-le-mul-right, lt-of-mul-lt-mul-right, div-mul-le-self, le-div-iff-mul-le, mod-lt, mul-pos}
 use native.Mathlib.Omega.{arith}
 use mathlib.Core.Bool.{Bool, true, false, not, cond}
 use borrow.Author.Tests.{ltb-true}
@@ -17,7 +16,9 @@ use lib.Ieee.Positive.{num, den, den-pos}
 use Rattle.binary32.specs.Range.{UpTo, Below}
 use Rattle.binary32.specs.Numbers.{plusZero, one}
 use Rattle.cell.specs.Rule.{line, scaleOf, clipOf, productOf, wholeOf, upOf, weightOf, smallerOf, nextOf}
-use Rattle.binary32.proofs.Values.{lt-is, mul-values, add-values, line-value, upTo-value, below-value, upTo-own, below-own, upTo-below, below-upTo, below-of-lt, round-clear, round-upTo, round-from, whole-is, whole-lt, rest-exact}
+use Rattle.binary32.proofs.Values.{lt-is, mul-values, add-values, line-value}
+use Rattle.binary32.proofs.Ranges.{upTo-value, below-value, upTo-own, below-own, upTo-below, below-upTo, below-of-lt, round-clear, round-upTo, round-from}
+use Rattle.binary32.proofs.Whole.{whole-is, whole-lt, rest-exact}
 
 -- ---- the product
 pub clip-upTo : (x : Float) → UpTo 1 (clipOf x)
@@ -46,11 +47,11 @@ product-upTo x g h =
     let n = g - 1 in
     let a = num (clipOf x) in
     let c = den (clipOf x) in
-    let N : n ≤ 2 ^ prec binary32 = small n (lt-of-lt-of-le (last g h) (lit≤ tt)) in
+    let N : n ≤ 2 ^ prec binary32 = small n (omega (arith, last g h)) in
     let u = upTo-own 1 (clipOf x) (clip-upTo x) in
     subst (λ (p : Float). UpTo n p) (sym (mul-values binary32 (clipOf x) (line n) a c n 1 (den-pos (clipOf x)) (zero-lt-suc 0) (u .0) (line-value binary32 n N)))
     (round-upTo binary32 (a * n) (c * 1) n (mul-pos (den-pos (clipOf x)) (zero-lt-suc 0)) N
-    (le-trans (mul-le-mul-right n (u .1)) (le-of-eq (mul-comm (1 * c) n ∙ ap (λ (z : ℕ). n * z) (mul-comm 1 c)))))
+    (omega (arith, mul-le-mul-right n (u .1))))
 
 pub product-fits : (x : Float) (g : ℕ) → T (fits binary32 (productOf x g))
 unfolding productOf
@@ -70,12 +71,12 @@ whole-line k h = unsigned-back binary32 64 k (le→leb k (2 ^ prec binary32) (sm
 -- a node's number passes the cast to a float
 pub castable : (p : Float) (k : ℕ) → Below 255 p → k ≡ wholeOf p → T (inFloat binary32 (pos k))
 unfolding inFloat
-castable p k h e = le→leb k (2 ^ prec binary32) (small k (lt-of-le-of-lt (le-of-eq e) (lt-of-lt-of-le (whole-lt 64 255 p (lit≤ tt) h) (lit≤ tt))))
+castable p k h e = le→leb k (2 ^ prec binary32) (small k (omega (arith, whole-lt 64 255 p (lit≤ tt) h)))
 
 -- ---- a rounded fraction, and line n where the fraction does not stay below it
 module _ (n a b : ℕ) (N : n < 255) (B : 0 < b) where
   n-value : HasValue (line n) false n 1
-  n-value = line-is n (lt-of-lt-of-le N (lit≤ tt))
+  n-value = line-is n (omega arith)
 
   z-below : T (lt (round binary32 false a b) (line n)) → Below n (round binary32 false a b)
   z-below t = below-of-lt (round binary32 false a b) (line n) n (round-clear binary32 a b) n-value t
@@ -93,9 +94,9 @@ module _ (n a b : ℕ) (N : n < 255) (B : 0 < b) where
       go : (t : Bool) → (T t → Below n (round binary32 false a b)) → k ≤ wholeOf (cond t (round binary32 false a b) (line n))
       go true r =
           let z = round binary32 false a b in
-          le-trans (le-div-iff-mul-le (den-pos z) .1 (round-from binary32 a b k n B (le-trans K (small n (lt-of-lt-of-le N (lit≤ tt)))) h (r tt)))
+          le-trans (le-div-iff-mul-le (den-pos z) .1 (round-from binary32 a b k n B (le-trans K (small n (omega arith))) h (r tt)))
           (le-of-eq (sym (whole-is 64 n z (le-trans (le-of-lt N) (lit≤ tt)) (r tt))))
-      go false r = le-trans K (le-of-eq (sym (whole-line n (lt-of-lt-of-le N (lit≤ tt)))))
+      go false r = le-trans K (le-of-eq (sym (whole-line n (omega arith))))
 
 -- ---- what is made of a p from +0 up to n
 module _ (n : ℕ) (p : Float) (N : n < 255) (U : UpTo n p) where
@@ -109,7 +110,7 @@ module _ (n : ℕ) (p : Float) (N : n < 255) (U : UpTo n p) where
   whole-div = whole-is 64 255 p (lit≤ tt) in-grid
 
   whole-value : HasValue (line (wholeOf p)) false (wholeOf p) 1
-  whole-value = line-is (wholeOf p) (lt-of-le-of-lt whole-le (lt-of-lt-of-le N (lit≤ tt)))
+  whole-value = line-is (wholeOf p) (omega (arith, whole-le))
 
   -- the whole part is below p only where it is below n
   room : lt (line (wholeOf p)) p ≡ true → wholeOf p < n
@@ -125,8 +126,8 @@ module _ (n : ℕ) (p : Float) (N : n < 255) (U : UpTo n p) where
   up-le = go (lt (line (wholeOf p)) p) room
     where
       go : (b : Bool) → (b ≡ true → wholeOf p < n) → wholeOf p + cond b 1 0 ≤ n
-      go true h = add-one-le (h refl)
-      go false h = le-trans (le-of-eq (add-zero (wholeOf p))) whole-le
+      go true h = omega (arith, h refl)
+      go false h = omega (arith, whole-le)
 
   pub whole-le-up : wholeOf p ≤ upOf p
   unfolding upOf

@@ -1,1 +1,2 @@
+-- `Rule`: what a cell of one ink is, and what a caller may rely on.
 pub mod Rule

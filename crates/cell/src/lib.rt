@@ -35,16 +35,15 @@ fn whole_part(p: f32) -> usize
     k as usize
 }
 
-// A product rounded up to a whole number.
-fn round_up(p: f32) -> usize
-    requires { ⌜ Below 255 p ⌝ }
+// A product rounded up to a whole number, from its whole part.
+fn round_up(p: f32, lower: usize) -> usize
+    requires { ⌜ Below 255 p × (lower ≡ wholeOf p) ⌝ }
     ensures { λ r. ⌜ r ≡ upOf p ⌝ }
 {
-    let k = whole_part(p);
-    if (k as f32) < p {
-        return k + 1;
+    if (lower as f32) < p {
+        return lower + 1;
     }
-    k
+    lower
 }
 
 // g - 1 as a float, the last grid line. (No grid has size 0; one that had would count as size 1.)
@@ -65,12 +64,11 @@ fn product(x: f32, g: u8) -> f32
     clip(x) * scale(g)
 }
 
-// The cell of a product whose upper node is known.
-fn cell_at(p: f32, upper: usize) -> Cell
-    requires { ⌜ Below 255 p ⌝ }
+// The cell of a product whose nodes are known.
+fn cell_at(p: f32, lower: usize, upper: usize) -> Cell
+    requires { ⌜ Below 255 p × (lower ≡ wholeOf p) ⌝ }
     ensures { λ r. ⌜ r ≡ cellAt p upper ⌝ }
 {
-    let lower = whole_part(p);
     Cell {
         x: lower,
         x_n: upper,
@@ -83,7 +81,8 @@ pub fn cell_low(x: f32, g: u8) -> Cell
     ensures { λ r. ⌜ r ≡ cellLow x g ⌝ }
 {
     let p = product(x, g);
-    cell_at(p, round_up(p))
+    let lower = whole_part(p);
+    cell_at(p, lower, round_up(p, lower))
 }
 
 // The smaller of two floats, the second where neither is below the other.
@@ -110,5 +109,5 @@ pub fn cell_high(x: f32, g: u8) -> Cell
     ensures { λ r. ⌜ r ≡ cellHigh x g ⌝ }
 {
     let p = product(x, g);
-    cell_at(p, next_node(p, g))
+    cell_at(p, whole_part(p), next_node(p, g))
 }

@@ -6,7 +6,7 @@ use mathlib.Core.Path.{_≡_, _∙_, ap}
 use lib.Ieee.{binary32, add, ofBits}
 use Rattle.binary32.specs.Numbers.{one}
 use Rattle.cell.specs.Rule.{line, scaleOf, wholeOf, smallerOf, nextOf}
-use Rattle.binary32.proofs.Values.{upTo-below}
+use Rattle.binary32.proofs.Ranges.{upTo-below}
 use Rattle.cell.proofs.Within.{last, capped-upTo}
 use Rattle.cell.proofs.next_node.Statement.{statement}
 use Rattle.cell.proofs.next_node.Tie as tie

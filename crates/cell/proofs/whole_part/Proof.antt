@@ -11,7 +11,7 @@ use borrow.Author.Needs.{needs}
 use borrow.Author.Tests.{leb-true, leb-false}
 use Rattle.binary32.specs.Range.{Below}
 use Rattle.cell.specs.Rule.{line, wholeOf}
-use Rattle.binary32.proofs.Values.{line-le, whole-lt}
+use Rattle.binary32.proofs.Whole.{line-le, whole-lt}
 use Rattle.cell.proofs.whole_part.Statement.{statement}
 use Rattle.cell.proofs.whole_part.Tie as tie
 

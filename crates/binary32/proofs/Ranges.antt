@@ -1,0 +1,127 @@
+-- `UpTo n x` and `Below n x`: how they come from the value of x and from a comparison, and what follows. `round-upTo`, `round-from`: what rounds from at most, or at least,
+-- a whole number that the format holds stays so. `below-share`: what is below 1 lies from 0 to 1. Assumes nothing.
+use mathlib.Core.Path.{refl, sym, subst}
+use Prim.Native.Nat.{ℕ, zero, suc, _+_, _*_, _^_, _≤_, _<_}
+use native.Mathlib.Nat.{le-trans, le-of-eq, le-of-lt, lt-of-le-of-lt, lt-of-lt-of-le, zero-lt-suc, mul-one, mul-right-comm, mul-le-mul-right, mul-lt-mul-of-pos-right, lt-of-mul-lt-mul-right, le-of-mul-le-mul-right}
+use native.Mathlib.Omega.{arith}
+use mathlib.Core.Bool.{Bool, true, false, not, _||_, cond, true≢false}
+use lib.Dec.{T, ltb, leb→le, ltb→lt}
+use lib.Ieee.{Float, nan, inf, fin, Format, binary32, prec, emax, low, down, odd, units, round, lt, le, eq, fits}
+use lib.Ieee.Fits.{down-pos, round-is}
+use lib.Ieee.Exact.{HasValue}
+use lib.Ieee.Back.{round-whole}
+use lib.Ieee.Order.{round-mono}
+use lib.Ieee.Positive.{num, den, den-pos}
+use Rattle.binary32.specs.Range.{UpTo, Below, Within, Share}
+use Rattle.binary32.proofs.Values.{lt-is, le-is}
+
+-- ---- from a value, and back
+pub below-value : (x : Float) (n a c : ℕ) → HasValue x false a c → a < n * c → Below n x
+below-value nan n a c v h = v
+below-value (inf s) n a c v h = v
+below-value (fin true m e) n a c v h = absurd (true≢false (v .0))
+below-value (fin false m e) n a c v h =
+    lt-of-mul-lt-mul-right c
+    (lt-of-le-of-lt (le-of-eq (v .1)) (lt-of-lt-of-le (mul-lt-mul-of-pos-right h (down-pos e)) (le-of-eq (mul-right-comm n c (down e)))))
+
+pub upTo-value : (x : Float) (n a c : ℕ) → 0 < c → HasValue x false a c → a ≤ n * c → UpTo n x
+upTo-value nan n a c C v h = v
+upTo-value (inf s) n a c C v h = v
+upTo-value (fin true m e) n a c C v h = absurd (true≢false (v .0))
+upTo-value (fin false m e) n a c C v h =
+    le-of-mul-le-mul-right (le-trans (le-of-eq (v .1)) (le-trans (mul-le-mul-right (down e) h) (le-of-eq (mul-right-comm n c (down e))))) C
+
+pub upTo-own : (n : ℕ) (x : Float) → UpTo n x → HasValue x false (num x) (den x) × (num x ≤ n * den x)
+upTo-own n nan h = absurd h
+upTo-own n (inf s) h = absurd h
+upTo-own n (fin true m e) h = absurd h
+upTo-own n (fin false m e) h = ((refl, refl), h)
+
+pub below-own : (n : ℕ) (x : Float) → Below n x → HasValue x false (num x) (den x) × (num x < n * den x)
+below-own n nan h = absurd h
+below-own n (inf s) h = absurd h
+below-own n (fin true m e) h = absurd h
+below-own n (fin false m e) h = ((refl, refl), h)
+
+-- ---- from one another
+pub below-upTo : (n : ℕ) (x : Float) → Below n x → UpTo n x
+below-upTo n x h = let o = below-own n x h in upTo-value x n (num x) (den x) (den-pos x) (o .0) (le-of-lt (o .1))
+
+pub upTo-below : (n k : ℕ) (x : Float) → n < k → UpTo n x → Below k x
+upTo-below n k x l h = let o = upTo-own n x h in below-value x k (num x) (den x) (o .0) (lt-of-le-of-lt (o .1) (mul-lt-mul-of-pos-right l (den-pos x)))
+
+-- a value below 1 is a share
+pub below-share : (x : Float) → T (fits binary32 x) → Below 1 x → Share x
+below-share x F h = record { is-fit = F; within = within x h }
+  where
+    within : (x : Float) → Below 1 x → Within 0 x
+    within nan h = h
+    within (inf s) h = h
+    within (fin true m e) h = absurd h
+    within (fin false m e) h = omega (arith, mul-le-mul-right (2 ^ 23) (le-of-lt h))
+
+-- ---- from a comparison
+-- the sign is clear, and it is no NaN
+abbrev pub clear : Float → Bool
+clear nan = false
+clear (inf s) = not s
+clear (fin s m e) = not s
+
+or-left : (a b : Bool) → T a → T (a || b)
+or-left true b t = tt
+or-left false b t = absurd t
+
+-- what is no more than a finite value is finite
+own-of-le : (x y : Float) (n : ℕ) → T (clear x) → HasValue y false n 1 → T (le x y) → HasValue x false (num x) (den x)
+own-of-le nan y n s v h = absurd s
+own-of-le (inf true) y n s v h = absurd s
+own-of-le (inf false) nan n s v h = absurd v
+own-of-le (inf false) (inf t) n s v h = absurd v
+own-of-le (inf false) (fin t k g) n s v h = unfold le in absurd h
+own-of-le (fin true m e) y n s v h = absurd s
+own-of-le (fin false m e) y n s v h = (refl, refl)
+
+-- a value with a clear sign, by a comparison with the whole number n
+module _ (x y : Float) (n : ℕ) (s : T (clear x)) (v : HasValue y false n 1) where
+  pub upTo-of-le : T (le x y) → UpTo n x
+  upTo-of-le h =
+      let o = own-of-le x y n s v h in
+      upTo-value x n (num x) (den x) (den-pos x) o
+      (le-trans (le-of-eq (sym (mul-one (num x)))) (leb→le (num x * 1) (n * den x) (subst T (le-is x y (num x) (den x) n 1 (den-pos x) (zero-lt-suc 0) o v) h)))
+
+  pub below-of-lt : T (lt x y) → Below n x
+  unfolding le
+  below-of-lt h =
+      let o = own-of-le x y n s v (or-left (lt x y) (eq x y) h) in
+      below-value x n (num x) (den x) o
+      (lt-of-le-of-lt (le-of-eq (sym (mul-one (num x)))) (ltb→lt (num x * 1) (n * den x) (subst T (lt-is x y (num x) (den x) n 1 (den-pos x) (zero-lt-suc 0) o v) h)))
+
+-- ---- of a rounded fraction
+odd-clear : (d q k l : ℕ) → T (clear (odd d false q k l))
+unfolding odd
+odd-clear d zero k l = tt
+odd-clear d (suc q) k l = tt
+
+units-clear : (f : Format) (q k : ℕ) → T (clear (units f false q k))
+unfolding units
+units-clear f q k = go (ltb (q * 2 ^ k) (2 ^ (low f + suc (emax f))))
+  where
+    go : (b : Bool) → T (clear (cond b (odd (suc (prec f)) false q k (low f)) (inf false)))
+    go true = odd-clear (suc (prec f)) q k (low f)
+    go false = tt
+
+pub round-clear : (f : Format) (a b : ℕ) → T (clear (round f false a b))
+round-clear f a b = subst (λ (z : Float). T (clear z)) (sym (round-is f false a b)) (units-clear f _ _)
+
+pub round-upTo : (f : Format) (a b n : ℕ) → 0 < b → n ≤ 2 ^ prec f → a ≤ n * b → UpTo n (round f false a b)
+round-upTo f a b n B N h =
+    upTo-of-le (round f false a b) (round f false n 1) n (round-clear f a b) (round-whole f false n N)
+    (round-mono f a b n 1 B (zero-lt-suc 0) (le-trans (le-of-eq (mul-one a)) h))
+
+pub round-from : (f : Format) (a b n k : ℕ) → 0 < b → n ≤ 2 ^ prec f → n * b ≤ a → Below k (round f false a b) → n * den (round f false a b) ≤ num (round f false a b)
+round-from f a b n k B N h r =
+    let z = round f false a b in
+    le-trans (leb→le (n * den z) (num z * 1)
+    (subst T (le-is (round f false n 1) z n 1 (num z) (den z) (zero-lt-suc 0) (den-pos z) (round-whole f false n N) (below-own k z r .0))
+    (round-mono f n 1 a b (zero-lt-suc 0) B (le-trans h (le-of-eq (sym (mul-one a)))))))
+    (le-of-eq (mul-one (num z)))

@@ -1,0 +1,36 @@
+-- Each public function asks nothing of its caller, and its statement leaves one outcome. Assumes nothing.
+use mathlib.Core.Path.{refl, sym, _∙_}
+use Rattle.outcome.specs.Outcome.{OneOutcome}
+use Rattle.binary32.proofs.mlaf.Kinds as mlaf-kinds
+use Rattle.binary32.proofs.mlaf.Reads as mlaf-reads
+use Rattle.binary32.proofs.neg_mlaf.Kinds as neg-mlaf-kinds
+use Rattle.binary32.proofs.neg_mlaf.Reads as neg-mlaf-reads
+use Rattle.binary32.proofs.fmla.Kinds as fmla-kinds
+use Rattle.binary32.proofs.fmla.Reads as fmla-reads
+use Rattle.binary32.proofs.lerp.Kinds as lerp-kinds
+use Rattle.binary32.proofs.lerp.Reads as lerp-reads
+
+pub mlaf-unique : OneOutcome 0 mlaf-kinds.ps mlaf-kinds.r mlaf-reads.Post
+mlaf-unique κs a x y ws vs p q = (p ∙ sym q, refl)
+
+pub neg-mlaf-unique : OneOutcome 0 neg-mlaf-kinds.ps neg-mlaf-kinds.r neg-mlaf-reads.Post
+neg-mlaf-unique κs a x y ws vs p q = (p ∙ sym q, refl)
+
+pub fmla-unique : OneOutcome 0 fmla-kinds.ps fmla-kinds.r fmla-reads.Post
+fmla-unique κs a x y ws vs p q = (p ∙ sym q, refl)
+
+pub lerp-unique : OneOutcome 0 lerp-kinds.ps lerp-kinds.r lerp-reads.Post
+lerp-unique κs a x y ws vs p q = (p ∙ sym q, refl)
+
+-- no `requires`
+pub mlaf-asks-nothing : (κs : _) (a : _) → mlaf-reads.Pre κs a
+mlaf-asks-nothing κs a = tt
+
+pub neg-mlaf-asks-nothing : (κs : _) (a : _) → neg-mlaf-reads.Pre κs a
+neg-mlaf-asks-nothing κs a = tt
+
+pub fmla-asks-nothing : (κs : _) (a : _) → fmla-reads.Pre κs a
+fmla-asks-nothing κs a = tt
+
+pub lerp-asks-nothing : (κs : _) (a : _) → lerp-reads.Pre κs a
+lerp-asks-nothing κs a = tt
