@@ -2,26 +2,28 @@
 -- `low-on-grid`, `high-on-grid`: both nodes are at most g - 1, in order, and the weight is from +0 up and below 1.
 -- `low-fits`, `high-fits`: the weight is a value of binary32; `low-share`, `high-share`: so it is one from 0 to 1.
 -- `low-line`, `high-line`: where the product is grid line k, the lower node is k and the weight is +0, and for inks 1 to 4 the upper node is k too.
--- `line-of-weight`: a weight of +0 says that the product is a grid line. `low-one`, `high-one`: with one line a cell is node 0 with weight +0.
+-- `product-line`: such a k is a line of the grid. `line-of-weight`: a weight of +0 says that the product is a grid line. `low-one`, `high-one`: with one line a cell is node 0 with weight +0.
 -- Assumes nothing.
-use mathlib.Core.Path.{_≡_, refl, sym, ap, _∙_}
+use mathlib.Core.Path.{_≡_, refl, sym, ap, _∙_, subst}
 use Prim.Native.Nat.{ℕ, _+_, _-_, _*_, _/_, _%_, _≤_, _<_}
 use native.Mathlib.Nat.{le-refl, le-trans, le-of-eq, lt-of-lt-of-le, lt-of-le-of-lt, zero-lt-suc, zero-mul, mul-one, add-zero, sub-self, div-add-mod'}
+use native.Mathlib.Decide.{decLt}
+use native.Mathlib.Omega.{arith}
 use mathlib.Core.Bool.{false}
 use borrow.Author.Tests.{le-ltb}
 use lib.Arith.{le-zero}
 use lib.IntN.{pos}
 use lib.Dec.{T, lit≤, lit<}
-use lib.Ieee.{Float, binary32, lt, sub, fits, ofInt}
+use lib.Ieee.{Float, binary32, round, lt, sub, fits, ofInt}
 use lib.Ieee.Exact.{HasValue}
 use lib.Ieee.Back.{whole-unique}
 use lib.Ieee.Fits.{sub-fits, ofInt-fits}
 use lib.Ieee.Positive.{num, den, den-pos}
-use Rattle.binary32.specs.Range.{UpTo, Share}
+use Rattle.binary32.specs.Range.{UpTo, Below, Share}
 use Rattle.binary32.specs.Numbers.{plusZero}
 use Rattle.binary32.proofs.Values.{lt-is, sub-values, zero-value, revalue}
 use Rattle.binary32.proofs.Exact.{round-zero}
-use Rattle.binary32.proofs.Ranges.{upTo-own, below-value, below-share}
+use Rattle.binary32.proofs.Ranges.{upTo-own, below-own, below-value, below-share, round-from}
 use Rattle.cell.specs.Rule.{OnGrid, line, productOf, wholeOf, upOf, weightOf, nextOf, cellAt, cellLow, cellHigh}
 use Rattle.cell.proofs.Within.{last, line-is, product-upTo, product-fits, in-grid, whole-le, up-le, whole-le-up, weight-value, weight-below, whole-div, next-le, whole-le-next, whole-line}
 
@@ -91,6 +93,24 @@ module _ (k : ℕ) (K : k < 256) where
   pub high-line : (x : Float) (g : ℕ) → productOf x g ≡ line k → cellHigh x g ≡ record { x = k; «x_n» = nextOf (line k) g; w = plusZero }
   unfolding cellHigh
   high-line x g e = simp (e, whole-line k K, weight-line)
+
+-- ---- a whole number from 256 up is not rounded to a number below 255, so a product on line k has k among the grid's lines
+small-line : (k : ℕ) → Below 255 (line k) → k < 256
+unfolding ofInt
+small-line k below = elim (decLt k 256) [
+  | yes h ↦ h
+  | no h ↦
+      let r = round binary32 false k 1 in
+      absurd (omega (arith, below-own 255 r below .1, round-from binary32 k 1 256 255 (omega arith) (lit≤ tt) (omega arith) below))
+]
+
+pub product-line : (x : Float) (g k : ℕ) → g < 256 → productOf x g ≡ line k → k ≤ g - 1
+product-line x g k byte on =
+    let p = productOf x g in
+    let up = product-upTo x g byte in
+    let small = small-line k (subst (Below 255) on (in-grid (g - 1) p (last g byte) up)) in
+    let same : wholeOf p ≡ k = ap wholeOf on ∙ whole-line k small in
+    omega (arith, whole-le (g - 1) p (last g byte) up)
 
 -- ---- a weight of +0
 nothing-left : (r c : ℕ) → HasValue plusZero false r c → r ≡ 0

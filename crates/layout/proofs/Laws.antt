@@ -1,34 +1,29 @@
 -- What an accepted layout promises. The lookups rest on these laws and on nothing else of the layout.
--- Equal sizes enter by `stride-after`, `reverse-replicate`, `entries-power` and what names the one size; all else holds for any sizes.
+-- Equal sizes enter by `stride-after`, `reverse-replicate`, `entries-power`, `fewer` and what names the one size; all else holds for any sizes.
 -- Assumes nothing.
-use Prim.Native.Nat.{ℕ, zero, suc, _+_, _-_, _*_, _^_, _≤_, _<_}
-use mathlib.Core.Path.{_≡_, sym, ap, _∙_, subst}
+use Prim.Native.Nat.{ℕ, suc, _-_, _*_, _^_, _≤_, _<_}
+use mathlib.Core.Path.{_≡_, refl, sym, ap, _∙_, subst}
 use mathlib.Core.Bool.{true}
 use mathlib.Core.List.{List, _∷_}
-use native.Mathlib.Nat.{le-refl, le-mul-of-pos-right, mul-one, one-mul, mul-comm, mul-assoc, pow-zero, pow-succ'}
+use native.Mathlib.Nat.{le-refl, le-of-suc-le-suc, le-mul-of-pos-right, mul-le-mul-right, mul-one, one-mul, mul-comm, mul-assoc}
 use native.Mathlib.Omega.{arith}
 use lib.Dec.{ltb}
 use lib.IntN.{pos}
 use lib.Ieee.{nan, binary32, ofInt}
-use lib.ListN.{length, getD, take, drop, replicate, length-replicate, getD-replicate}
+use lib.ListN.{length, getD, drop, replicate, length-replicate, getD-replicate}
 use lib.Seq.{drop-cons}
 use borrow.Author.Tests.{ltb-true}
 use Rattle.lists.specs.Lists.{every, product}
 use Rattle.layout.specs.Order.{index, Within, strided, Steps, Reaches}
-use Rattle.binary32.specs.Numbers.{plusZero}
-use Rattle.layout.specs.Layout.{limit, common, stride, recordOf, laidOf, IsLayout, inkSizes, entries}
+use Rattle.layout.specs.Layout.{limit, stride, recordOf, IsLayout, inkSizes, entries, fewer}
 use Rattle.layout.specs.declared.MultidimensionalLut.{MultidimensionalLut}
-use Rattle.lists.proofs.Lists.{take-replicate, drop-replicate, reverse-replicate, every-at}
-use Rattle.layout.proofs.Parts.{count-from, count-to, places-used, stride-fits}
-use Rattle.layout.proofs.Accepted.{Accepted, accepted-of, given-again}
+use Rattle.lists.proofs.Lists.{take-replicate, drop-replicate, reverse-replicate, every-at, product-replicate}
+use Rattle.layout.proofs.Parts.{count-from, count-to, count-is, product-fits}
+use Rattle.layout.proofs.Accepted.{Accepted, accepted-equal, common-is}
+use Rattle.layout.proofs.Facts.{Facts, facts-of, layout-of, used-at}
 use Rattle.layout.proofs.Order.{strided-index, steps-after, entries-within, within-length}
 
 -- ---- equal sizes: the one place that rests on them
-
-product-replicate : (n g : ℕ) → product (replicate n g) ≡ g ^ n
-unfolding product
-product-replicate zero g = sym (pow-zero g)
-product-replicate (suc n) g = ap (λ (x : ℕ). g * x) (product-replicate n g) ∙ sym (pow-succ' g n)
 
 -- the product of the first n - i - 1 sizes is that of the sizes after i
 stride-after : (g n i : ℕ) → stride (replicate n g) n i ≡ product (drop (suc i) (replicate n g))
@@ -40,28 +35,23 @@ stride-after g n i =
 
 module _ (lut : MultidimensionalLut) (is : IsLayout lut) where
   -- it is the record of its own sizes and counts, which are accepted
-  pub facts : Accepted (inkSizes lut) (lut .«input_inks») (lut .«output_inks») × (lut ≡ recordOf (inkSizes lut) (lut .«input_inks») (lut .«output_inks»))
-  unfolding laidOf
-  facts =
-      let n = lut .«input_inks» in
-      let m = lut .«output_inks» in
-      let ok = accepted-of (take n (replicate 16 (lut .«grid_size»))) n m lut (given-again lut is) in
-      subst (λ (used : List ℕ). Accepted used n m × (lut ≡ recordOf used n m)) (take-replicate n 16 (lut .«grid_size») (omega (arith, count-to n (ok .0 .n-counts)))) ok
+  facts : Facts lut
+  facts = facts-of lut is
 
   pub inks-from : 1 ≤ lut .«input_inks»
-  inks-from = count-from (lut .«input_inks») (facts .0 .n-counts)
+  inks-from = count-from (lut .«input_inks») (facts .accepted .n-counts)
 
   pub inks-to : lut .«input_inks» ≤ 15
-  inks-to = count-to (lut .«input_inks») (facts .0 .n-counts)
+  inks-to = count-to (lut .«input_inks») (facts .accepted .n-counts)
 
   pub outputs-from : 1 ≤ lut .«output_inks»
-  outputs-from = count-from (lut .«output_inks») (facts .0 .m-counts)
+  outputs-from = count-from (lut .«output_inks») (facts .accepted .m-counts)
 
   pub outputs-to : lut .«output_inks» ≤ 15
-  outputs-to = count-to (lut .«output_inks») (facts .0 .m-counts)
+  outputs-to = count-to (lut .«output_inks») (facts .accepted .m-counts)
 
   pub entries-fit : entries lut ≤ limit
-  entries-fit = facts .0 .within
+  entries-fit = facts .accepted .within
 
   pub ink-count : length (inkSizes lut) ≡ lut .«input_inks»
   ink-count = length-replicate (lut .«input_inks») (lut .«grid_size»)
@@ -70,47 +60,39 @@ module _ (lut : MultidimensionalLut) (is : IsLayout lut) where
   entries-power = ap (λ (x : ℕ). x * lut .«output_inks») (product-replicate (lut .«input_inks») (lut .«grid_size»))
 
   pub sizes-above : every (ltb 0) (inkSizes lut) ≡ true
-  sizes-above = facts .0 .above
+  sizes-above = facts .accepted .above
 
   pub size-from : 1 ≤ lut .«grid_size»
   size-from =
       let first = every-at (ltb 0) (inkSizes lut) 0 sizes-above (omega (arith, ink-count, inks-from)) in
       ltb-true 0 _ (subst (λ (g : ℕ). ltb 0 g ≡ true) (getD-replicate (lut .«input_inks») 0 (lut .«grid_size») 0 inks-from) first)
 
+  pub size-to : lut .«grid_size» ≤ 255
+  size-to = le-of-suc-le-suc (facts .byte)
+
   -- ---- the record's places in use
 
   pub scale-at : (i : ℕ) → i < lut .«input_inks» → getD (lut .«grid_scale») i nan ≡ ofInt binary32 (pos (lut .«grid_size» - 1))
-  unfolding recordOf
-  scale-at i h =
-      let size = getD-replicate (lut .«input_inks») 0 (lut .«grid_size») 0 inks-from in
-      ap (λ (l : MultidimensionalLut). getD (l .«grid_scale») i nan) (facts .1)
-      ∙ places-used (λ j. ofInt binary32 (pos (common (inkSizes lut) - 1))) plusZero (lut .«input_inks») i nan (omega (arith, inks-to)) h
-      ∙ ap (λ (g : ℕ). ofInt binary32 (pos (g - 1))) size
+  scale-at i h = used-at lut facts i h .scale-is
 
   stride-at : (i : ℕ) → i < lut .«input_inks» → getD (lut .«grid_strides») i 0 ≡ stride (inkSizes lut) (lut .«input_inks») i
-  unfolding recordOf
-  stride-at i h =
-      ap (λ (l : MultidimensionalLut). getD (l .«grid_strides») i 0) (facts .1)
-      ∙ places-used (stride (inkSizes lut) (lut .«input_inks»)) 1 (lut .«input_inks») i 0 (omega (arith, inks-to)) h
+  stride-at i h = used-at lut facts i h .stride-is
 
   filling-at : (i : ℕ) → i < lut .«input_inks» → getD (lut .«grid_filling_size») i 0 ≡ lut .«output_inks» * stride (inkSizes lut) (lut .«input_inks») i
-  unfolding recordOf
-  filling-at i h =
-      ap (λ (l : MultidimensionalLut). getD (l .«grid_filling_size») i 0) (facts .1)
-      ∙ places-used (λ j. lut .«output_inks» * stride (inkSizes lut) (lut .«input_inks») j) 1 (lut .«input_inks») i 0 (omega (arith, inks-to)) h
+  filling-at i h = used-at lut facts i h .filling-is
 
   -- every stride and filling size in use is within the limit
   pub stride-within : (i : ℕ) → i < lut .«input_inks» → getD (lut .«grid_strides») i 0 ≤ limit
   stride-within i h =
       let at = stride-at i h in
       let one = mul-one (stride (inkSizes lut) (lut .«input_inks») i) in
-      omega (arith, stride-fits (inkSizes lut) (lut .«input_inks») i 1 (lut .«output_inks») (facts .0 .above) outputs-from (facts .0 .within))
+      omega (arith, product-fits (inkSizes lut) (lut .«input_inks» - i - 1) 1 (lut .«output_inks») (facts .accepted .above) outputs-from (facts .accepted .within))
 
   pub filling-within : (i : ℕ) → i < lut .«input_inks» → getD (lut .«grid_filling_size») i 0 ≤ limit
   filling-within i h =
       let at = filling-at i h in
       let turned = mul-comm (lut .«output_inks») (stride (inkSizes lut) (lut .«input_inks») i) in
-      omega (arith, stride-fits (inkSizes lut) (lut .«input_inks») i (lut .«output_inks») (lut .«output_inks») (facts .0 .above) (le-refl _) (facts .0 .within))
+      omega (arith, product-fits (inkSizes lut) (lut .«input_inks» - i - 1) (lut .«output_inks») (lut .«output_inks») (facts .accepted .above) (le-refl _) (facts .accepted .within))
 
   -- where they are c times the products of the sizes after each ink, the numbers are strides
   steps-of : (c : ℕ) (strides : List ℕ) → ((i : ℕ) → i < lut .«input_inks» → getD strides i 0 ≡ c * stride (inkSizes lut) (lut .«input_inks») i) → Steps strides (inkSizes lut) c
@@ -162,3 +144,48 @@ module _ (lut : MultidimensionalLut) (is : IsLayout lut) where
   node-fits ks w =
       let times = le-mul-of-pos-right (index (inkSizes lut) ks) outputs-from in
       omega (arith, entries-within (inkSizes lut) ks (lut .«output_inks») w, entries-fit)
+
+-- ---- one ink fewer
+
+module _ (lut : MultidimensionalLut) (is : IsLayout lut) (two : 2 ≤ lut .«input_inks») where
+  pub fewer-inks : fewer lut .«input_inks» ≡ lut .«input_inks» - 1
+  unfolding recordOf
+  fewer-inks = refl
+
+  pub fewer-outputs : fewer lut .«output_inks» ≡ lut .«output_inks»
+  unfolding recordOf
+  fewer-outputs = refl
+
+  pub fewer-size : fewer lut .«grid_size» ≡ lut .«grid_size»
+  unfolding recordOf
+  fewer-size = common-is (lut .«input_inks» - 1) (lut .«grid_size») (omega arith)
+
+  -- the last ink's size and the other inks' sizes
+  sizes-split : inkSizes lut ≡ lut .«grid_size» ∷ replicate (lut .«input_inks» - 1) (lut .«grid_size»)
+  sizes-split = ap (λ (k : ℕ). replicate k (lut .«grid_size»)) (let next : lut .«input_inks» ≡ suc (lut .«input_inks» - 1) = omega arith in next)
+
+  pub fewer-sizes : inkSizes lut ≡ lut .«grid_size» ∷ inkSizes (fewer lut)
+  unfolding recordOf
+  fewer-sizes = sizes-split ∙ ap (λ (g : ℕ). lut .«grid_size» ∷ replicate (lut .«input_inks» - 1) g) (sym fewer-size)
+
+  -- the whole table has its entries for each line of the last ink
+  pub fewer-entries : entries lut ≡ lut .«grid_size» * entries (fewer lut)
+  unfolding recordOf product
+  fewer-entries = ap (λ (l : List ℕ). product l * lut .«output_inks») fewer-sizes ∙ mul-assoc (lut .«grid_size») (product (inkSizes (fewer lut))) (lut .«output_inks»)
+
+  pub fewer-is-layout : IsLayout (fewer lut)
+  unfolding recordOf product
+  fewer-is-layout =
+      let g = lut .«grid_size» in
+      let n = lut .«input_inks» - 1 in
+      let m = lut .«output_inks» in
+      let rest = product (replicate n g) in
+      let smaller : rest * m ≤ g * rest * m = mul-le-mul-right m (omega (arith, le-mul-of-pos-right rest (size-from lut is), mul-comm rest g)) in
+      let whole : entries lut ≡ g * rest * m = ap (λ (l : List ℕ). product l * m) sizes-split in
+      let ok = accepted-equal g n m (count-is n (omega arith) (omega (arith, inks-to lut is))) (facts lut is .accepted .m-counts) (size-from lut is) (omega (arith, entries-fit lut is)) in
+      let same : replicate n g ≡ inkSizes (fewer lut) = ap (replicate n) (sym fewer-size) in
+      layout-of (fewer lut) (record {
+        byte = omega (arith, fewer-size, size-to lut is);
+        accepted = subst (λ (l : List ℕ). Accepted l n m) same ok;
+        made = ap (λ (l : List ℕ). recordOf l n m) same;
+      })

@@ -2,17 +2,18 @@
 -- Assumes nothing.
 use Prim.Native.Nat.{ℕ, zero, suc, _+_, _-_, _*_, _/_, _%_, _≤_, _<_}
 use mathlib.Core.Path.{_≡_, refl, sym, ap, _∙_, subst}
-use mathlib.Core.Bool.{true}
+use mathlib.Core.Bool.{Bool, true, _&&_}
 use mathlib.Core.List.{List, [], _∷_, reverse}
 use native.Mathlib.Nat.{le-refl, add-assoc, mul-one, mul-add, mul-assoc, mul-comm, suc-mul, mul-suc, mul-zero, mul-le-mul-left, mul-le-mul-right, mod-eq-of-lt, div-eq-of-lt, zero-add, add-mul-mod-self-left, add-mul-div-left, suc-inj, mod-lt, div-lt-iff-lt-mul, div-add-mod}
 use native.Mathlib.Omega.{arith}
 use lib.Ieee.Positive.{first-pos}
 use lib.Dec.{ltb}
-use lib.ListN.{length, getD, take, drop, length-reverse}
+use lib.ListN.{length, getD, take, drop, replicate, length-reverse}
 use lib.Seq.{getD-drop, drop-cons, take-length, drop-length, length-take-le}
+use borrow.Author.Tests.{ltb-true, lt-ltb}
 use Rattle.lists.specs.Lists.{every, product}
-use Rattle.lists.proofs.Lists.{product-pos, reverse-next}
-use Rattle.layout.specs.Order.{index, Within, strided, Steps, Reaches, nodeAt}
+use Rattle.lists.proofs.Lists.{and-true, and-left, and-right, product-pos, reverse-next}
+use Rattle.layout.specs.Order.{index, Within, strided, Steps, Reaches, nodeAt, inGrid}
 
 -- ---- strides give the order
 
@@ -110,6 +111,35 @@ node-number (g ∷ gs) i h =
     let some : 0 < g = first-pos g (product gs) (omega arith) in
     let turned : i < product gs * g = omega (arith, mul-comm g (product gs)) in
     rw (node-number gs (i / g) (div-lt-iff-lt-mul some .1 turned)) (omega (arith, div-add-mod i g))
+
+-- the node with a node's number is that node
+pub node-back : (gs ks : List ℕ) → Within gs ks → nodeAt gs (index gs ks) ≡ ks
+node-back gs ks w =
+    let below = index-below gs ks w in
+    index-injective gs (nodeAt gs (index gs ks)) ks (node-within gs (index gs ks) below) w (node-number gs (index gs ks) below)
+
+-- ---- the test
+
+pub in-grid-within : (gs ks : List ℕ) → inGrid gs ks ≡ true → Within gs ks
+unfolding inGrid Within
+in-grid-within [] [] h = tt
+in-grid-within [] (k ∷ ks) h = absurd (let no : _≡_ {A = ℕ} 0 1 = cc in omega arith)
+in-grid-within (g ∷ gs) [] h = absurd (let no : _≡_ {A = ℕ} 0 1 = cc in omega arith)
+in-grid-within (g ∷ gs) (k ∷ ks) h =
+    (ltb-true k g (and-left (ltb k g) (inGrid gs ks) h), in-grid-within gs ks (and-right (ltb k g) (inGrid gs ks) h))
+
+pub within-in-grid : (gs ks : List ℕ) → Within gs ks → inGrid gs ks ≡ true
+unfolding inGrid Within
+within-in-grid [] [] w = refl
+within-in-grid [] (k ∷ ks) w = absurd w
+within-in-grid (g ∷ gs) [] w = absurd w
+within-in-grid (g ∷ gs) (k ∷ ks) w = and-true (ltb k g) (inGrid gs ks) (lt-ltb k g (w .0)) (within-in-grid gs ks (w .1))
+
+-- of equal sizes: each coordinate is below the one size
+pub in-grid-equal : (g : ℕ) (ks : List ℕ) → inGrid (replicate (length ks) g) ks ≡ every (λ k. ltb k g) ks
+unfolding inGrid every
+in-grid-equal g [] = refl
+in-grid-equal g (k ∷ ks) = ap (λ (b : Bool). ltb k g && b) (in-grid-equal g ks)
 
 -- ---- parts: where the last ink of those with the sizes g ∷ gs stands on line x, the other inks' grid is the part that starts at x * s
 

@@ -1,20 +1,25 @@
 -- Laws of the parts of a layout record: counts, places and strides.
 -- Assumes nothing.
-use mathlib.Core.Path.{_≡_, refl, sym, _∙_, ap}
-use mathlib.Core.Bool.{true}
+use mathlib.Core.Path.{_≡_, refl, sym, _∙_, ap, subst}
+use mathlib.Core.Bool.{Bool, true, false, not, cond}
 use mathlib.Core.List.{List}
-use Prim.Native.Nat.{ℕ, _+_, _-_, _*_, _≤_, _<_}
-use native.Mathlib.Nat.{le-trans, mul-le-mul}
+use Prim.Native.Nat.{ℕ, suc, _+_, _-_, _*_, _^_, _≤_, _<_}
+use native.Mathlib.Nat.{le-refl, le-trans, mul-le-mul, sub-self}
 use native.Mathlib.Numerals.{add-one}
-use native.Mathlib.Decide.{decLt}
+use native.Mathlib.Decide.{decLe, decLt}
 use native.Mathlib.Omega.{arith}
 use lib.Arith.{lt-of-le-ne}
-use lib.Dec.{ltb, leb}
-use lib.ListN.{getD, set, replicate}
-use borrow.Author.Tests.{leb-true, lt-ltb, le-ltb}
+use lib.Dec.{T, ltb, leb, le→leb}
+use lib.Ieee.{Float, nan, binary32, inFloat, inUnsigned}
+use lib.Ieee.Back.{unsigned-back}
+use lib.ListN.{length, getD, take, set, replicate}
+use lib.Seq.{take-all, ext-getD}
+use borrow.Author.Tests.{leb-true, le-leb, lt-ltb, le-ltb}
+use Rattle.binary32.specs.Numbers.{plusZero, ofWhole}
 use Rattle.lists.specs.Lists.{tabulate, every, product}
+use Rattle.outcome.specs.Outcome.{Decides}
 use Rattle.layout.specs.Layout.{limit, isCount, place, places, stride}
-use Rattle.lists.proofs.Lists.{and-left, and-right, set-tabulate, getD-tabulate, product-take-le}
+use Rattle.lists.proofs.Lists.{and-true, and-left, and-right, length-tabulate, tabulate-same, set-tabulate, getD-tabulate, product-take-suc, product-take-le}
 
 pub count-from : (n : ℕ) → isCount n ≡ true → 1 ≤ n
 unfolding isCount
@@ -24,28 +29,124 @@ pub count-to : (n : ℕ) → isCount n ≡ true → n ≤ 15
 unfolding isCount
 count-to n h = leb-true n 15 (and-right (leb 1 n) (leb n 15) h)
 
+pub count-is : (n : ℕ) → 1 ≤ n → n ≤ 15 → isCount n ≡ true
+unfolding isCount
+count-is n from to = and-true (leb 1 n) (leb n 15) (le-leb 1 n from) (le-leb n 15 to)
+
 -- ---- places
 
-module _ {A : Type 0} (f : ℕ → A) (unused : A) where
-  pub places-none : places 0 f unused ≡ replicate 16 unused
-  unfolding tabulate
-  places-none = refl
+module _ {A : Type 0} (n : ℕ) (f : ℕ → A) (unused : A) where
+  pub place-used : (i : ℕ) → i < n → place n f unused i ≡ f i
+  place-used i h = simp (lt-ltb i n h)
 
-  -- one ink more
-  pub places-store : (i : ℕ) → set (places i f unused) i (f i) ≡ places (i + 1) f unused
-  places-store i =
-      let at : place (i + 1) f unused i ≡ f i = simp (lt-ltb i (i + 1) (omega arith)) in
-      ap (set (places i f unused) i) (sym at) ∙ set-tabulate 16 (place i f unused) (place (i + 1) f unused) i (λ j h other.
+  pub place-unused : (i : ℕ) → n ≤ i → place n f unused i ≡ unused
+  place-unused i h = simp (le-ltb i n h)
+
+  pub places-used : (i : ℕ) (d : A) → n ≤ 16 → i < n → getD (places n f unused) i d ≡ f i
+  places-used i d h l = getD-tabulate 16 (place n f unused) i d (omega arith) ∙ place-used i l
+
+  pub places-unused : (i : ℕ) (d : A) → i < 16 → n ≤ i → getD (places n f unused) i d ≡ unused
+  places-unused i d h l = getD-tabulate 16 (place n f unused) i d h ∙ place-unused i l
+
+  -- a list of sixteen with those entries is the places
+  pub places-are : (xs : List A) (d : A) → length xs ≡ 16 → n ≤ 16 → ((i : ℕ) → i < n → getD xs i d ≡ f i) → ((i : ℕ) → i < 16 → n ≤ i → getD xs i d ≡ unused) → xs ≡ places n f unused
+  places-are xs d sixteen few used rest =
+      ext-getD d xs (places n f unused) (sixteen ∙ sym (length-tabulate 16 (place n f unused))) (λ i h.
+      elim (decLt i n) [
+        | yes l ↦ used i l ∙ sym (places-used i d few l)
+        | no g ↦ rest i (omega arith) (omega arith) ∙ sym (places-unused i d (omega arith) (omega arith))
+      ])
+
+  -- while the places are filled from the last ink down: those from ink i on are, those before it are not yet
+  abbrev filling : ℕ → ℕ → A
+  filling i j = cond (ltb j i) unused (place n f unused j)
+
+  abbrev pub filledFrom : ℕ → List A
+  filledFrom i = tabulate 16 (filling i)
+
+  pub filled-none : filledFrom n ≡ replicate 16 unused
+  unfolding tabulate
+  filled-none =
+      tabulate-same 16 (filling n) (λ j. unused) (λ j h.
+      elim (decLt j n) [
+        | yes l ↦ simp (lt-ltb j n l)
+        | no g ↦ let past : n ≤ j = omega arith in simp (le-ltb j n past)
+      ])
+
+  pub filled-all : filledFrom 0 ≡ places n f unused
+  unfolding tabulate
+  filled-all = refl
+
+  filled-store : (i : ℕ) → i < n → set (filledFrom (i + 1)) i (f i) ≡ filledFrom i
+  filled-store i h =
+      let at : filling i i ≡ f i = simp (le-ltb i i (le-refl i), lt-ltb i n h) in
+      ap (set (filledFrom (i + 1)) i) (sym at) ∙ set-tabulate 16 (filling (i + 1)) (filling i) i (λ j l other.
       elim (decLt j i) [
-        | yes l ↦ simp (lt-ltb j i l, lt-ltb j (i + 1) (omega arith))
+        | yes b ↦ simp (lt-ltb j i b, lt-ltb j (i + 1) (omega arith))
         | no g ↦ simp (le-ltb j i (omega arith), le-ltb j (i + 1) (rw add-one (lt-of-le-ne {i = i} {k = j} (omega arith) (λ e. other (sym e)))))
       ])
 
-  pub places-used : (n i : ℕ) (d : A) → n ≤ 16 → i < n → getD (places n f unused) i d ≡ f i
-  places-used n i d h l = getD-tabulate 16 _ i d (omega arith) ∙ simp (lt-ltb i n l)
+  -- the place of the ink before i is filled
+  pub filled-next : (i : ℕ) → 0 < i → i ≤ n → set (filledFrom i) (i - 1) (f (i - 1)) ≡ filledFrom (i - 1)
+  filled-next i some inks =
+      let back : i ≡ i - 1 + 1 = omega arith in
+      ap (λ (k : ℕ). set (filledFrom k) (i - 1) (f (i - 1))) back ∙ filled-store (i - 1) (omega arith)
 
 -- ---- strides
 
--- a stride, alone or times m, is within the limit where the total is
-pub stride-fits : (used : List ℕ) (n i k m : ℕ) → every (ltb 0) used ≡ true → k ≤ m → product used * m ≤ limit → stride used n i * k ≤ limit
-stride-fits used n i k m h km t = le-trans (mul-le-mul (product-take-le used (n - i - 1) h) km) t
+-- the running product from the last of n inks down, once ink i is passed
+abbrev pub running : List ℕ → ℕ → ℕ → ℕ
+running used n i = product (take (n - i) used)
+
+pub running-none : (used : List ℕ) (n : ℕ) → running used n n ≡ 1
+unfolding product
+running-none used n = ap (λ (k : ℕ). product (take k used)) (sub-self n)
+
+module _ (used : List ℕ) (n : ℕ) (len : length used ≡ n) where
+  pub running-all : running used n 0 ≡ product used
+  running-all = ap product (take-all (n - 0) used (omega arith))
+
+  module _ (i : ℕ) (some : 0 < i) (inks : i ≤ n) where
+    -- it is the stride of the ink before
+    pub running-stride : running used n i ≡ stride used n (i - 1)
+    running-stride = ap (λ (k : ℕ). product (take k used)) (let same : n - i ≡ n - (i - 1) - 1 = omega arith in same)
+
+    pub running-next : running used n (i - 1) ≡ running used n i * getD used (n - i) 0
+    running-next =
+        let next : n - (i - 1) ≡ suc (n - i) = omega arith in
+        ap (λ (k : ℕ). product (take k used)) next ∙ product-take-suc used (n - i) (omega arith)
+
+-- what holds from i on and at the place before holds from there on
+pub from-less : {P : ℕ → Type 0} (n i : ℕ) → ((k : ℕ) → i ≤ k → k < n → P k) → P (i - 1) → (k : ℕ) → i - 1 ≤ k → k < n → P k
+from-less {P} n i above here k h l =
+    elim (decLe i k) [
+      | yes g ↦ above k g l
+      | no g ↦ let same : i - 1 ≡ k = omega arith in subst P same here
+    ]
+
+-- a product of the first sizes, alone or times m, is within the limit where the total is
+pub product-fits : (used : List ℕ) (i k m : ℕ) → every (ltb 0) used ≡ true → k ≤ m → product used * m ≤ limit → product (take i used) * k ≤ limit
+product-fits used i k m h km t = le-trans (mul-le-mul (product-take-le used i h) km) t
+
+-- ---- a Bool that is known and a claim that is decided
+
+pub refuses : {Claim : Type 0} → (Claim → ⊥) → Decides false Claim
+refuses fails = record { holds = λ e. absurd (let z : _≡_ {A = ℕ} 0 1 = cc in omega arith); found = λ claim. absurd (fails claim) }
+
+pub accepts : {Claim : Type 0} → Claim → Decides true Claim
+accepts claim = record { holds = λ e. claim; found = λ c. refl }
+
+pub not-both : (b : Bool) → not b ≡ true → b ≡ true → ⊥
+not-both true p q = let z : _≡_ {A = ℕ} 0 1 = cc in omega arith
+not-both false p q = let z : _≡_ {A = ℕ} 0 1 = cc in omega arith
+
+-- ---- no scale is a NaN
+
+pub zero-is-number : plusZero ≡ nan → ⊥
+zero-is-number e = let z : _≡_ {A = ℕ} 0 1 = cc in omega arith
+
+pub scale-is-number : (g : ℕ) → g < 256 → ofWhole (g - 1) ≡ nan → ⊥
+unfolding inFloat inUnsigned
+scale-is-number g h e =
+    subst (λ (x : Float). T (inUnsigned binary32 8 x)) e
+    (unsigned-back binary32 8 (g - 1) (le→leb (g - 1) (2 ^ 24) (omega arith)) (omega arith) .0)

@@ -1,6 +1,6 @@
 -- Each public function asks nothing of its caller, and its statement leaves one outcome.
 -- Assumes nothing.
-use mathlib.Core.Path.{_≡_, refl, sym, _∙_}
+use mathlib.Core.Path.{refl, sym, _∙_}
 use Rattle.outcome.specs.Outcome.{OneOutcome}
 use Rattle.outcome.proofs.Decided.{decided}
 use Rattle.layout.proofs.layout.Kinds as layout-kinds
@@ -30,3 +30,9 @@ layout-asks-nothing κs a = tt
 
 pub is-layout-asks-nothing : (κs : _) (a : _) → is-layout-reads.Pre κs a
 is-layout-asks-nothing κs a = tt
+
+pub entry-count-asks-nothing : (κs : _) (a : _) → entry-count-reads.Pre κs a
+entry-count-asks-nothing κs a = tt
+
+pub entry-offset-asks-nothing : (κs : _) (a : _) → entry-offset-reads.Pre κs a
+entry-offset-asks-nothing κs a = tt

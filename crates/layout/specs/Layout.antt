@@ -97,3 +97,7 @@ inkSizes lut = replicate (lut .«input_inks») (lut .«grid_size»)
 -- the entries of a record's whole table
 abbrev pub entries : MultidimensionalLut → ℕ
 entries lut = product (inkSizes lut) * lut .«output_inks»
+
+-- the record of the same size and outputs with one ink fewer
+abbrev pub fewer : MultidimensionalLut → MultidimensionalLut
+fewer lut = recordOf (replicate (lut .«input_inks» - 1) (lut .«grid_size»)) (lut .«input_inks» - 1) (lut .«output_inks»)

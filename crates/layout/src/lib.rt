@@ -1,5 +1,5 @@
 // Sizes, strides and the layout record: document 01. The meaning is in specs/Layout.antt.
-mod same;
+mod places;
 mod sizes;
 
 ghost use mathlib.Core.Path.{_≡_};
@@ -40,15 +40,16 @@ pub fn entry_offset(node: NodeNumber, m: u32) -> EntryOffset
     EntryOffset((node.0 as u64) * (m as u64))
 }
 
-// The entries of the whole table, where the record is a layout's.
+// The entries of the whole table, where the record is a layout's: those of one line of the first ink, for each line.
 pub fn entry_count(lut: MultidimensionalLut) -> u64
     ensures { λ r. ⌜ r ≡ getD (lut .«grid_filling_size») 0 0 * lut .«grid_size» ⌝ }
 {
-    let filling = lut.grid_filling_size;
-    let size = lut.grid_size;
-    (filling[0] as u64) * (size as u64)
+    let per_line = lut.grid_filling_size;
+    let lines = lut.grid_size;
+    (per_line[0] as u64) * (lines as u64)
 }
 
+// A refusal has a record of zeros.
 fn refused(number: u32) -> Laid
     ensures { λ r. ⌜ r ≡ refusedBy number ⌝ }
 {
@@ -66,6 +67,7 @@ fn refused(number: u32) -> Laid
     }
 }
 
+// A count of inks is 1 to 15.
 fn is_count(n: usize) -> bool
     ensures { λ r. ⌜ r ≡ isCount n ⌝ }
 {
@@ -75,7 +77,7 @@ fn is_count(n: usize) -> bool
     n <= 15
 }
 
-// The record of sizes that passed every test.
+// The record of sizes that passed every test. From the last ink down, each stride is the one before it times the next size.
 fn record_of(sizes: [u8; 16], n: usize, m: usize) -> MultidimensionalLut
     requires { ⌜ isCount n ≡ true ⌝ }
     requires { ⌜ isCount m ≡ true ⌝ }
@@ -85,16 +87,18 @@ fn record_of(sizes: [u8; 16], n: usize, m: usize) -> MultidimensionalLut
 {
     let first = sizes[0];
     let scale = (first - 1) as f32;
+    let outputs = m as u32;
     let mut grid_strides = [1u32; 16];
     let mut grid_filling_size = [1u32; 16];
     let mut grid_scale = [0.0f32; 16];
-    let mut i: usize = 0;
-    while i < n {
-        let before = n - i - 1;
-        grid_strides[i] = sizes::capped(sizes, before, 1) as u32;
-        grid_filling_size[i] = sizes::capped(sizes, before, m as u64) as u32;
+    let mut stride: u32 = 1;
+    let mut i = n;
+    while 0 < i {
+        i -= 1;
+        grid_strides[i] = stride;
+        grid_filling_size[i] = outputs * stride;
         grid_scale[i] = scale;
-        i += 1;
+        stride = stride * (sizes[n - i - 1] as u32);
     }
     MultidimensionalLut {
         grid_strides,
@@ -134,22 +138,22 @@ pub fn is_layout(lut: MultidimensionalLut) -> bool
     ensures { λ r. ⌜ Decides r (IsLayout lut) ⌝ }
 {
     let size = lut.grid_size;
-    let laid = layout([size; 16], lut.input_inks, lut.output_inks);
-    if laid.refusal != 0 {
+    let n = lut.input_inks;
+    let m = lut.output_inks;
+    if !is_count(n) {
         return false;
     }
-    let want = laid.lut;
+    if !is_count(m) {
+        return false;
+    }
+    if size == 0 {
+        return false;
+    }
     let strides = lut.grid_strides;
-    let want_strides = want.grid_strides;
-    if !same::counts(strides, want_strides) {
-        return false;
-    }
     let filling = lut.grid_filling_size;
-    let want_filling = want.grid_filling_size;
-    if !same::counts(filling, want_filling) {
+    let scale = lut.grid_scale;
+    if !places::used(strides, filling, scale, size, n, m) {
         return false;
     }
-    let scale = lut.grid_scale;
-    let want_scale = want.grid_scale;
-    same::floats(scale, want_scale)
+    places::unused(strides, filling, scale, n)
 }

@@ -1,7 +1,7 @@
 // Tests and products over the first sizes.
 ghost use mathlib.Core.Path.{_≡_};
 ghost use Prim.Native.Nat.{_+_, _*_, _≤_, min};
-ghost use lib.ListN.{take, getD};
+ghost use lib.ListN.{take};
 ghost use lib.Dec.{ltb, eqb};
 ghost use Rattle.lists.specs.Lists.{every, product};
 ghost use Rattle.layout.specs.Layout.{limit, common};

@@ -3,11 +3,13 @@
 use mathlib.Core.Path.{_≡_, refl, sym, _∙_, ap}
 use mathlib.Core.Bool.{Bool, true, false, _&&_}
 use mathlib.Core.List.{List, [], _∷_, _++_, reverse, reverse-cons, reverse-append}
-use Prim.Native.Nat.{ℕ, zero, suc, _-_, _*_, _≤_, _<_, suc-le-suc}
-use native.Mathlib.Nat.{sub-zero, zero-sub, suc-sub-suc, mul-one, one-mul, mul-assoc, mul-pos, le-refl, mul-le-mul-left, le-of-suc-le-suc, not-suc-le-zero}
+use Prim.Native.Nat.{ℕ, zero, suc, _-_, _*_, _^_, _≤_, _<_, suc-le-suc}
+use native.Mathlib.Nat.{sub-zero, zero-sub, suc-sub-suc, mul-one, one-mul, mul-assoc, mul-pos, le-refl, mul-le-mul-left, le-of-suc-le-suc, not-suc-le-zero, pow-zero, pow-succ'}
 use native.Mathlib.Numerals.{add-one}
 use native.Mathlib.Omega.{arith}
-use lib.Dec.{ltb, eqb}
+use lib.Dec.{T, ltb, eqb, ltb→lt}
+use lib.Pow.{areBytes}
+use lib.Ieee.Fits.{and-l, and-r}
 use lib.ListN.{length, getD, take, drop, set, replicate, replicate-append-replicate}
 use lib.Seq.{length-take-le, getD-take, take-suc}
 use borrow.Author.Tests.{ltb-true, eqb-true}
@@ -48,7 +50,7 @@ module _ {A : Type 0} where
 
 -- ---- every
 
-and-true : (a b : Bool) → a ≡ true → b ≡ true → (a && b) ≡ true
+pub and-true : (a b : Bool) → a ≡ true → b ≡ true → (a && b) ≡ true
 and-true a b p q = rw (p, q)
 
 pub and-left : (a b : Bool) → (a && b) ≡ true → a ≡ true
@@ -62,6 +64,11 @@ and-right false b h = let z : true ≡ false = sym h in cc
 and-not : (a b : Bool) → b ≡ false → (a && b) ≡ false
 and-not true b h = h
 and-not false b h = refl
+
+and-swap : (a b c : Bool) → (a && (b && c)) ≡ (b && (a && c))
+and-swap true b c = refl
+and-swap false true c = refl
+and-swap false false c = refl
 
 pub every-head : (p : ℕ → Bool) (x : ℕ) (xs : List ℕ) → every p (x ∷ xs) ≡ true → p x ≡ true
 unfolding every
@@ -87,6 +94,22 @@ every-fails p [] i l h = absurd (not-suc-le-zero l)
 every-fails p (x ∷ xs) zero l h = rw h
 every-fails p (x ∷ xs) (suc i) l h = and-not (p x) (every p xs) (every-fails p xs i (le-of-suc-le-suc l) h)
 
+every-last : (p : ℕ → Bool) (xs : List ℕ) (x : ℕ) → every p (xs ++ (x ∷ [])) ≡ (p x && every p xs)
+unfolding every
+every-last p [] x = refl
+every-last p (y ∷ xs) x = rw (every-last p xs x) (and-swap (p y) (p x) (every p xs))
+
+-- the order does not matter
+pub every-reverse : (p : ℕ → Bool) (xs : List ℕ) → every p (reverse xs) ≡ every p xs
+unfolding every
+every-reverse p [] = refl
+every-reverse p (x ∷ xs) = rw (reverse-cons x xs) (every-last p (reverse xs) x ∙ ap (λ (b : Bool). p x && b) (every-reverse p xs))
+
+pub every-replicate : (p : ℕ → Bool) (n a : ℕ) → p a ≡ true → every p (replicate n a) ≡ true
+unfolding every
+every-replicate p zero a h = refl
+every-replicate p (suc n) a h = and-true (p a) (every p (replicate n a)) h (every-replicate p n a h)
+
 -- of the first n elements
 module _ (p : ℕ → Bool) (xs : List ℕ) (n : ℕ) (in-xs : n ≤ length xs) where
   pub first-every : ((i : ℕ) → i < n → p (getD xs i 0) ≡ true) → every p (take n xs) ≡ true
@@ -98,6 +121,12 @@ module _ (p : ℕ → Bool) (xs : List ℕ) (n : ℕ) (in-xs : n ≤ length xs) 
   pub first-fails : (i : ℕ) → i < n → p (getD xs i 0) ≡ false → every p (take n xs) ≡ false
   first-fails i below h =
       every-fails p (take n xs) i (omega (arith, length-take-le n xs in-xs)) (rw (getD-take n xs i 0 below) h)
+
+-- an entry of a list of bytes is one
+pub bytes-at : (xs : List ℕ) → T (areBytes xs) → (i : ℕ) → getD xs i 0 < 256
+bytes-at [] t i = omega arith
+bytes-at (x ∷ xs) t zero = ltb→lt x 256 (and-l (ltb x 256) (areBytes xs) t)
+bytes-at (x ∷ xs) t (suc i) = bytes-at xs (and-r (ltb x 256) (areBytes xs) t) i
 
 -- every element is g: the list repeats it
 pub all-are : (g : ℕ) (xs : List ℕ) → every (eqb g) xs ≡ true → xs ≡ replicate (length xs) g
@@ -126,6 +155,11 @@ pub reverse-next : (xs : List ℕ) (j : ℕ) → j < length xs → reverse (take
 reverse-next xs j h = rw (take-suc xs j 0 h, reverse-append)
 
 -- ---- product
+
+pub product-replicate : (n g : ℕ) → product (replicate n g) ≡ g ^ n
+unfolding product
+product-replicate zero g = sym (pow-zero g)
+product-replicate (suc n) g = ap (λ (x : ℕ). g * x) (product-replicate n g) ∙ sym (pow-succ' g n)
 
 pub product-take-suc : (xs : List ℕ) (i : ℕ) → i < length xs → product (take (suc i) xs) ≡ product (take i xs) * getD xs i 0
 unfolding product

@@ -49,69 +49,38 @@ within c =
     let args = c .before .before .before .before .before .before .before .before .before .before .args in
     low-of-cut (total (take (args .n) (args .sizes)) (args .m)) limit (omega (arith, c .before .capped .ensures))
 
--- ---- the needs
+-- ---- each return
 
-is-count-requires : tie.Need-is-count-requires
-is-count-requires c κs = search needs
-
-refused-requires : tie.Need-refused-requires
-refused-requires c κs = search needs
-
-returns : tie.Need-returns
+refused-1 : tie.Need-returns
 unfolding laidOf laidUsing
-returns c =
+refused-1 c =
     let fails : isCount (c .before .before .before .args .n) ≡ false = sym (c .before .before .is-count .ensures) ∙ not-true _ (c .before .if1 .taken) in
     c .refused .ensures ∙ simp fails
 
-is-count-requires-2 : tie.Need-is-count-requires-2
-is-count-requires-2 c κs = search needs
-
-refused-requires-2 : tie.Need-refused-requires-2
-refused-requires-2 c κs = search needs
-
-returns-2 : tie.Need-returns-2
+refused-2 : tie.Need-returns-2
 unfolding laidOf laidUsing
-returns-2 c =
+refused-2 c =
     let at = c .before .before .before in
     let fails : isCount (at .before .before .args .m) ≡ false = sym (c .before .before .is-count2 .ensures) ∙ not-true _ (c .before .if2 .taken) in
     c .refused2 .ensures ∙ simp (n-counts at, fails)
 
-above-zero-requires : tie.Need-above-zero-requires
-above-zero-requires c κs = omega (arith, count-to _ (n-counts (c .before .before)))
-
-refused-requires-3 : tie.Need-refused-requires-3
-refused-requires-3 c κs = search needs
-
-returns-3 : tie.Need-returns-3
+refused-3 : tie.Need-returns-3
 unfolding laidOf laidUsing
-returns-3 c =
+refused-3 c =
     let at = c .before .before .before in
     let fails = sym (c .before .before .above-zero .ensures) ∙ not-true _ (c .before .if3 .taken) in
     c .refused3 .ensures ∙ simp (n-counts (at .before .before), m-counts at, fails)
 
-equal-requires : tie.Need-equal-requires
-equal-requires c κs = omega (arith, count-to _ (n-counts (c .before .before .before .before)))
-
-refused-requires-4 : tie.Need-refused-requires-4
-refused-requires-4 c κs = search needs
-
-returns-4 : tie.Need-returns-4
+refused-4 : tie.Need-returns-4
 unfolding laidOf laidUsing
-returns-4 c =
+refused-4 c =
     let at = c .before .before .before in
     let fails = sym (c .before .before .equal .ensures) ∙ not-true _ (c .before .if4 .taken) in
     c .refused4 .ensures ∙ simp (n-counts (at .before .before .before .before), m-counts (at .before .before), above at, fails)
 
-capped-requires : tie.Need-capped-requires
-capped-requires c κs =
-    omega (arith, count-to _ (n-counts (c .before .before .before .before .before .before)), count-to _ (m-counts (c .before .before .before .before)))
-
-refused-requires-5 : tie.Need-refused-requires-5
-refused-requires-5 c κs = search needs
-
-returns-5 : tie.Need-returns-5
+refused-5 : tie.Need-returns-5
 unfolding laidOf laidUsing
-returns-5 c =
+refused-5 c =
     let at = c .before .before .before in
     let args = at .before .before .before .before .before .before .before .before .args in
     let all = total (take (args .n) (args .sizes)) (args .m) in
@@ -119,36 +88,36 @@ returns-5 c =
     let fails : ltb limit all ≡ true = lt-ltb limit all (omega (arith, c .before .before .capped .ensures, c .before .if5 .taken)) in
     c .refused5 .ensures ∙ simp (n-counts (at .before .before .before .before .before .before), m-counts (at .before .before .before .before), above (at .before .before), same at, fails)
 
-record-of-requires : tie.Need-record-of-requires
-record-of-requires c κs =
-    let at = c .before .before in
-    (n-counts (at .before .before .before .before .before .before), (m-counts (at .before .before .before .before), (above (at .before .before), within c)))
-
-returns-6 : tie.Need-returns-6
+accepted : tie.Need-returns-6
 unfolding laidOf laidUsing
-returns-6 c =
+accepted c =
     let at = c .before .before .before in
     let passes = le-ltb limit _ (within (c .before)) in
     simp (c .record-of .ensures, n-counts (at .before .before .before .before .before .before), m-counts (at .before .before .before .before), above (at .before .before), same at, passes)
+
+record-asks : tie.Need-record-of-requires
+record-asks c κs =
+    let at = c .before .before in
+    (n-counts (at .before .before .before .before .before .before), (m-counts (at .before .before .before .before), (above (at .before .before), within c)))
 
 pub layout-spec : {M : Type 1} → statement M
 layout-spec =
     tie.close
     (tie.spec
-    is-count-requires
-    refused-requires
-    returns
-    is-count-requires-2
-    refused-requires-2
-    returns-2
-    above-zero-requires
-    refused-requires-3
-    returns-3
-    equal-requires
-    refused-requires-4
-    returns-4
-    capped-requires
-    refused-requires-5
-    returns-5
-    record-of-requires
-    returns-6)
+    (λ c κs. search needs)
+    (λ c κs. search needs)
+    refused-1
+    (λ c κs. search needs)
+    (λ c κs. search needs)
+    refused-2
+    (λ c κs. omega (arith, count-to _ (n-counts (c .before .before))))
+    (λ c κs. search needs)
+    refused-3
+    (λ c κs. omega (arith, count-to _ (n-counts (c .before .before .before .before))))
+    (λ c κs. search needs)
+    refused-4
+    (λ c κs. omega (arith, count-to _ (n-counts (c .before .before .before .before .before .before)), count-to _ (m-counts (c .before .before .before .before))))
+    (λ c κs. search needs)
+    refused-5
+    record-asks
+    accepted)

@@ -1,174 +1,138 @@
--- `layout::record_of` meets its contract: after i inks the places of those inks are filled, and the others are unused.
+-- `layout::record_of` meets its contract: from ink i on the places are filled, and the running product is that of the sizes passed.
 -- Assumes nothing.
-use Prim.Native.Nat.{ℕ, _+_, _-_, _*_, _≤_, _<_, min}
+use Prim.Native.Nat.{ℕ, _-_, _*_, _≤_, _<_}
 use mathlib.Core.Path.{_≡_, sym, ap, _∙_}
 use mathlib.Core.List.{List}
-use native.Mathlib.Nat.{le-refl, mul-one, mul-comm, min-eq-left}
+use native.Mathlib.Nat.{le-refl, mul-one, mul-comm}
 use native.Mathlib.Omega.{arith}
 use lib.Dec.{ltb}
-use lib.IntN.{pos}
-use lib.Ieee.{binary32, ofInt, ofBits}
-use lib.ListN.{getD, take}
-use lib.Seq.{take-take, getD-take, length-take-le}
+use lib.Ieee.{ofBits}
+use lib.ListN.{length, getD, take}
+use lib.Seq.{getD-take, length-take-le}
 use borrow.Author.Needs.{needs}
 use borrow.Author.Tests.{ltb-true}
-use Rattle.lists.specs.Lists.{product}
-use Rattle.binary32.specs.Numbers.{plusZero}
-use Rattle.layout.specs.Layout.{limit, stride, places, recordOf, common}
+use Rattle.binary32.specs.Numbers.{plusZero, ofWhole}
+use Rattle.layout.specs.Layout.{limit, stride, recordOf, common}
 use Rattle.lists.proofs.Lists.{every-at}
-use Rattle.layout.proofs.Parts.{count-from, count-to, places-none, places-store, stride-fits}
+use Rattle.layout.proofs.Parts.{count-from, count-to, filledFrom, filled-none, filled-all, filled-next, running, running-none, running-stride, running-next, product-fits}
 use Rattle.layout.proofs.record_of.Statement.{statement}
 use Rattle.layout.proofs.record_of.Tie as tie
 
 abbrev Inv-loop : tie.InvT-loop
-Inv-loop n m sizes first scale grid-strides₀ grid-filling-size₀ grid-scale₀ i₀ grid-strides grid-filling-size grid-scale i =
+Inv-loop n m sizes first scale outputs grid-strides₀ grid-filling-size₀ grid-scale₀ stride₀ i₀ grid-strides grid-filling-size grid-scale product i =
     (i ≤ n)
-    × (grid-strides ≡ places i (stride (take n sizes) n) 1)
-    × (grid-filling-size ≡ places i (λ j. m * stride (take n sizes) n j) 1)
-    × (grid-scale ≡ places i (λ j. scale) plusZero)
+    × (product ≡ running (take n sizes) n i)
+    × (grid-strides ≡ filledFrom n (stride (take n sizes) n) 1 i)
+    × (grid-filling-size ≡ filledFrom n (λ j. m * stride (take n sizes) n j) 1 i)
+    × (grid-scale ≡ filledFrom n (λ j. scale) plusZero i)
 
 abbrev μ-loop : tie.MeasureT-loop
-μ-loop n m sizes first scale grid-strides₀ grid-filling-size₀ grid-scale₀ i₀ grid-strides grid-filling-size grid-scale i =
-    n - i
+μ-loop n m sizes first scale outputs grid-strides₀ grid-filling-size₀ grid-scale₀ stride₀ i₀ grid-strides grid-filling-size grid-scale product i =
+    i
 
--- what `capped` gives is the stride times k, since that is within the limit
-uncut : (sizes : List ℕ) (n i k r : ℕ) → r ≡ min (product (take (n - i - 1) sizes) * k) (limit + 1) → stride (take n sizes) n i * k ≤ limit → r ≡ stride (take n sizes) n i * k
-uncut sizes n i k r e fits =
-    e
-    ∙ ap (λ (l : List ℕ). min (product l * k) (limit + 1)) (sym (take-take (n - i - 1) n sizes (omega arith)))
-    ∙ min-eq-left (omega arith)
+-- ---- before the loop
 
-array-read-first : tie.Need-array-read-first Inv-loop μ-loop
-array-read-first c = search needs
+few : (c : tie.Start Inv-loop μ-loop) → c .args .n ≤ 15
+few c = count-to (c .args .n) (c .pre .0)
+
+used-length : (c : tie.Start Inv-loop μ-loop) → length (take (c .args .n) (c .args .t1)) ≡ c .args .n
+used-length c = length-take-le (c .args .n) (c .args .t1) (omega (arith, few c))
 
 first-in-use : (c : tie.Start Inv-loop μ-loop) → common (take (c .args .n) (c .args .t1)) ≡ getD (c .args .t1) 0 0
 first-in-use c = getD-take (c .args .n) (c .args .t1) 0 0 (count-from (c .args .n) (c .pre .0))
 
-sub-scale : tie.Need-sub-scale Inv-loop μ-loop
-sub-scale c =
-    let n = c .args .n in
-    let sizes = c .args .t1 in
-    let some = count-from n (c .pre .0) in
-    let used = length-take-le n sizes (omega (arith, count-to n (c .pre .0))) in
-    let above : 0 < common (take n sizes) = ltb-true 0 _ (every-at (ltb 0) (take n sizes) 0 (c .pre .1 .1 .0) (omega arith)) in
+first-above : (c : tie.Start Inv-loop μ-loop) → 1 ≤ getD (c .args .t1) 0 0
+first-above c =
+    let some = count-from (c .args .n) (c .pre .0) in
+    let above : 0 < common (take (c .args .n) (c .args .t1)) = ltb-true 0 _ (every-at (ltb 0) (take (c .args .n) (c .args .t1)) 0 (c .pre .1 .1 .0) (omega (arith, used-length c))) in
     omega (arith, first-in-use c)
 
-int-to-float-scale : tie.Need-int-to-float-scale Inv-loop μ-loop
-int-to-float-scale c = search needs
+-- ---- one turn
 
-loop-holds : tie.Need-loop-holds Inv-loop μ-loop
-unfolding ofBits
-loop-holds c = (search needs, sym (places-none _ 1), sym (places-none _ 1), sym (places-none _ plusZero))
+module _ (c : tie.In-loop Inv-loop μ-loop) where
+  abbrev start : tie.Start Inv-loop μ-loop
+  start = c .before .before .before
 
-sub-before : tie.Need-sub-before Inv-loop μ-loop
-sub-before c = search needs
+  abbrev used : List ℕ
+  used = take (start .args .n) (start .args .t1)
 
-sub-before-2 : tie.Need-sub-before-2 Inv-loop μ-loop
-sub-before-2 c = search needs
+  abbrev ink : ℕ
+  ink = c .before .loop .i - 1
 
-capped-requires : tie.Need-capped-requires Inv-loop μ-loop
-capped-requires c κs = omega (arith, count-to _ (c .before .before .before .pre .0))
+  -- the running product is the stride of the ink whose place is filled
+  stride-is : c .before .loop .stride ≡ stride used (start .args .n) ink
+  stride-is = c .before .loop .inv .1 ∙ running-stride used (start .args .n) (used-length start) (c .before .loop .i) (omega arith) (omega arith)
 
--- the two products are the stride, alone and times m, and both are within the limit
-stride-is : (c : tie.After-capped Inv-loop μ-loop) →
-    let start = c .before .before .before .before in
-    let s = stride (take (start .args .n) (start .args .t1)) (start .args .n) (c .before .before .loop .i) in
-    (c .capped .result ≡ s) × (s ≤ limit)
-stride-is c =
-    let start = c .before .before .before .before in
-    let used = take (start .args .n) (start .args .t1) in
-    let i = c .before .before .loop .i in
-    let fits = stride-fits used (start .args .n) i 1 (start .args .m) (start .pre .1 .1 .0) (count-from _ (start .pre .1 .0)) (start .pre .1 .1 .1) in
-    let one = mul-one (stride used (start .args .n) i) in
-    (uncut (start .args .t1) (start .args .n) i 1 _ (c .capped .ensures) fits ∙ one, omega arith)
+  -- and the next one that times the next size
+  next-is : c .before .loop .stride * getD (start .args .t1) (start .args .n - ink - 1) 0 ≡ running used (start .args .n) ink
+  next-is =
+      let n = start .args .n in
+      let i = c .before .loop .i in
+      let same : n - ink - 1 ≡ n - i = omega arith in
+      let size : getD (start .args .t1) (n - ink - 1) 0 ≡ getD used (n - i) 0 =
+      ap (λ (k : ℕ). getD (start .args .t1) k 0) same ∙ sym (getD-take n (start .args .t1) (n - i) 0 (omega arith)) in
+      ap (λ (x : ℕ). x * getD (start .args .t1) (n - ink - 1) 0) (c .before .loop .inv .1)
+      ∙ ap (λ (x : ℕ). running used n i * x) size
+      ∙ sym (running-next used n (used-length start) i (omega arith) (omega arith))
 
-filling-is : (c : tie.After-capped2 Inv-loop μ-loop) →
-    let start = c .before .before .before .before .before in
-    let s = stride (take (start .args .n) (start .args .t1)) (start .args .n) (c .before .before .before .loop .i) in
-    (c .capped2 .result ≡ start .args .m * s) × (start .args .m * s ≤ limit)
-filling-is c =
-    let start = c .before .before .before .before .before in
-    let used = take (start .args .n) (start .args .t1) in
-    let i = c .before .before .before .loop .i in
-    let fits = stride-fits used (start .args .n) i (start .args .m) (start .args .m) (start .pre .1 .1 .0) (le-refl _) (start .pre .1 .1 .1) in
-    let turned = mul-comm (stride used (start .args .n) i) (start .args .m) in
-    (uncut (start .args .t1) (start .args .n) i (start .args .m) _ (c .capped2 .ensures) fits ∙ turned, omega arith)
+  next-fits : c .before .loop .stride * getD (start .args .t1) (start .args .n - ink - 1) 0 ≤ limit
+  next-fits =
+      let one = mul-one (running used (start .args .n) ink) in
+      omega (arith, next-is, product-fits used (start .args .n - ink) 1 (start .args .m) (start .pre .1 .1 .0) (count-from _ (start .pre .1 .0)) (start .pre .1 .1 .1))
 
-cast-grid-strides : tie.Need-cast-grid-strides Inv-loop μ-loop
-cast-grid-strides c = omega (arith, stride-is c .0, stride-is c .1)
+  filling-fits : start .args .m * c .before .loop .stride ≤ limit
+  filling-fits =
+      let m = start .args .m in
+      let turned = ap (λ (x : ℕ). m * x) stride-is ∙ mul-comm m (stride used (start .args .n) ink) in
+      omega (arith, turned, product-fits used (start .args .n - ink - 1) m m (start .pre .1 .1 .0) (le-refl m) (start .pre .1 .1 .1))
 
-mul-grid-strides : tie.Need-mul-grid-strides Inv-loop μ-loop
-mul-grid-strides c = omega (arith, count-to _ (c .before .before .before .before .pre .0))
-
-array-write-grid-strides : tie.Need-array-write-grid-strides Inv-loop μ-loop
-array-write-grid-strides c = omega (arith, count-to _ (c .before .before .before .before .pre .0))
-
-capped-requires-2 : tie.Need-capped-requires-2 Inv-loop μ-loop
-capped-requires-2 c κs = omega (arith, count-to _ (c .before .before .before .before .pre .0), count-to _ (c .before .before .before .before .pre .1 .0))
-
-cast-grid-filling-size : tie.Need-cast-grid-filling-size Inv-loop μ-loop
-cast-grid-filling-size c = omega (arith, filling-is c .0, filling-is c .1)
-
-mul-grid-filling-size : tie.Need-mul-grid-filling-size Inv-loop μ-loop
-mul-grid-filling-size c = omega (arith, count-to _ (c .before .before .before .before .before .pre .0))
-
-array-write-grid-filling-size : tie.Need-array-write-grid-filling-size Inv-loop μ-loop
-array-write-grid-filling-size c = omega (arith, count-to _ (c .before .before .before .before .before .pre .0))
-
-mul-grid-scale : tie.Need-mul-grid-scale Inv-loop μ-loop
-mul-grid-scale c = omega (arith, count-to _ (c .before .before .before .before .before .pre .0))
-
-array-write-grid-scale : tie.Need-array-write-grid-scale Inv-loop μ-loop
-array-write-grid-scale c = omega (arith, count-to _ (c .before .before .before .before .before .pre .0))
-
-add-i : tie.Need-add-i Inv-loop μ-loop
-add-i c = search needs
-
-loop-less : tie.Need-loop-less Inv-loop μ-loop
-loop-less c = search needs
-
-loop-again : tie.Need-loop-again Inv-loop μ-loop
-loop-again c =
-    let inv = c .before .before .before .loop .inv in
-    let i = c .before .before .before .loop .i in
-    let start = c .before .before .before .before .before in
-    let f = stride (take (start .args .n) (start .args .t1)) (start .args .n) in (
+again : tie.Need-loop-again Inv-loop μ-loop
+again c =
+    let inv = c .before .loop .inv in
+    let i = c .before .loop .i in
+    let args = start c .args in
+    let n = args .n in
+    let f = stride (used c) n in
+    let some : 0 < i = omega arith in (
       search needs,
-      rw (inv .1, stride-is (c .before) .0) (places-store f 1 i),
-      rw (inv .2, filling-is c .0) (places-store (λ j. start .args .m * f j) 1 i),
-      rw (inv .3) (places-store (λ j. ofInt binary32 (pos (getD (start .args .t1) 0 0 - 1))) plusZero i),
+      next-is c,
+      rw (inv .2, stride-is c) (filled-next n f 1 i some (inv .0)),
+      rw (inv .3, stride-is c) (filled-next n (λ j. args .m * f j) 1 i some (inv .0)),
+      rw (inv .4) (filled-next n (λ j. ofWhole (getD (args .t1) 0 0 - 1)) plusZero i some (inv .0)),
     )
 
-returns : tie.Need-returns Inv-loop μ-loop
+filled : tie.Need-returns Inv-loop μ-loop
 unfolding recordOf
-returns c =
+filled c =
     let inv = c .before .loop .inv in
-    let done : c .before .loop .i ≡ c .before .before .before .args .n = omega arith in
-    simp (first-in-use (c .before .before .before), inv .1, inv .2, inv .3, done)
+    let done : c .before .loop .i ≡ 0 = omega arith in
+    simp (first-in-use (c .before .before .before), inv .2, inv .3, inv .4, done, filled-all)
 
 pub record-of-spec : {M : Type 1} → statement M
+unfolding ofBits recordOf
 record-of-spec =
     tie.close
     (tie.spec
     Inv-loop
     μ-loop
-    array-read-first
-    sub-scale
-    int-to-float-scale
-    loop-holds
-    sub-before
-    sub-before-2
-    capped-requires
-    cast-grid-strides
-    mul-grid-strides
-    array-write-grid-strides
-    capped-requires-2
-    cast-grid-filling-size
-    mul-grid-filling-size
-    array-write-grid-filling-size
-    mul-grid-scale
-    array-write-grid-scale
-    add-i
-    loop-less
-    loop-again
-    returns)
+    (λ c. search needs)
+    first-above
+    (λ c. search needs)
+    (λ c. omega (arith, count-to _ (c .before .pre .1 .0)))
+    (λ c. (search needs, sym (running-none _ (c .before .args .n)), sym (filled-none _ _ 1), sym (filled-none _ _ 1), sym (filled-none _ _ plusZero)))
+    (λ c. search needs)
+    (λ c. omega (arith, few (start c)))
+    (λ c. omega (arith, few (start c)))
+    (λ c. omega (arith, filling-fits c))
+    (λ c. omega (arith, few (start c)))
+    (λ c. omega (arith, few (start c)))
+    (λ c. omega (arith, few (start c)))
+    (λ c. omega (arith, few (start c)))
+    (λ c. search needs)
+    (λ c. omega arith)
+    (λ c. omega (arith, few (start c)))
+    (λ c. search needs)
+    (λ c. omega (arith, next-fits c))
+    (λ c. search needs)
+    again
+    filled)

@@ -20,31 +20,15 @@ Inv-loop n sizes i₀ i = (i ≤ n) × ((k : ℕ) → k < i → ltb 0 (getD size
 abbrev μ-loop : tie.MeasureT-loop
 μ-loop n sizes i₀ i = n - i
 
-loop-holds : tie.Need-loop-holds Inv-loop μ-loop
-loop-holds c = (search needs, below-none _)
-
-array-read-if1 : tie.Need-array-read-if1 Inv-loop μ-loop
-array-read-if1 c = search needs
-
-returns : tie.Need-returns Inv-loop μ-loop
-returns c =
+one-is-zero : tie.Need-returns Inv-loop μ-loop
+one-is-zero c =
     let n = c .before .before .before .args .n in
     let sizes = c .before .before .before .args .t1 in
     let i = c .before .before .loop .i in
     sym (first-fails (ltb 0) sizes n (omega arith) i (omega arith) (le-ltb 0 (getD sizes i 0) (omega arith)))
 
-add-i : tie.Need-add-i Inv-loop μ-loop
-add-i c = search needs
-
-loop-less : tie.Need-loop-less Inv-loop μ-loop
-loop-less c = search needs
-
-loop-again : tie.Need-loop-again Inv-loop μ-loop
-loop-again c =
-    (search needs, below-more _ _ (c .before .before .loop .inv .1) (lt-ltb 0 _ (pos-of-ne-zero (c .if1 .left))))
-
-returns-2 : tie.Need-returns-2 Inv-loop μ-loop
-returns-2 c =
+none-is-zero : tie.Need-returns-2 Inv-loop μ-loop
+none-is-zero c =
     let n = c .before .before .args .n in
     let sizes = c .before .before .args .t1 in
     sym (first-every (ltb 0) sizes n (omega arith) (λ k h. c .before .loop .inv .1 k (omega arith)))
@@ -55,10 +39,10 @@ above-zero-spec =
     (tie.spec
     Inv-loop
     μ-loop
-    loop-holds
-    array-read-if1
-    returns
-    add-i
-    loop-less
-    loop-again
-    returns-2)
+    (λ c. (search needs, below-none _))
+    (λ c. search needs)
+    one-is-zero
+    (λ c. search needs)
+    (λ c. search needs)
+    (λ c. (search needs, below-more _ _ (c .before .before .loop .inv .1) (lt-ltb 0 _ (pos-of-ne-zero (c .if1 .left)))))
+    none-is-zero)

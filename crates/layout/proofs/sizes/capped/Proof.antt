@@ -38,33 +38,14 @@ Inv-loop n m sizes t₀ i₀ t i = (i ≤ n) × (t ≡ min (product (take i size
 abbrev μ-loop : tie.MeasureT-loop
 μ-loop n m sizes t₀ i₀ t i = n - i
 
-loop-holds : tie.Need-loop-holds Inv-loop μ-loop
-unfolding product
-loop-holds c = (search needs, sym (ap (λ (x : ℕ). min x (limit + 1)) (one-mul (c .args .m)) ∙ min-eq-left (omega arith)))
-
-array-read-t : tie.Need-array-read-t Inv-loop μ-loop
-array-read-t c = search needs
-
-cast-t : tie.Need-cast-t Inv-loop μ-loop
-cast-t c = search needs
-
-mul-t : tie.Need-mul-t Inv-loop μ-loop
-mul-t c =
+product-fits : tie.Need-mul-t Inv-loop μ-loop
+product-fits c =
     let byte : Fits w8 (getD (c .before .before .args .t1) (c .before .loop .i) 0) = search needs in
     let cut = min-le-right (product (take (c .before .loop .i) (c .before .before .args .t1)) * c .before .before .args .m) (limit + 1) in
     fits-le (mul-le-mul {n₂ = limit + 1} {m₂ = 255} (omega (arith, cut)) (omega arith)) (fits-lit tt)
 
-add-t : tie.Need-add-t Inv-loop μ-loop
-add-t c = search needs
-
-add-i : tie.Need-add-i Inv-loop μ-loop
-add-i c = search needs
-
-loop-less : tie.Need-loop-less Inv-loop μ-loop
-loop-less c = search needs
-
-loop-again : tie.Need-loop-again Inv-loop μ-loop
-loop-again c =
+one-size-more : tie.Need-loop-again Inv-loop μ-loop
+one-size-more c =
     let m = c .before .before .before .args .m in
     let sizes = c .before .before .before .args .t1 in
     let i = c .before .before .loop .i in
@@ -78,23 +59,24 @@ loop-again c =
       ⊎-elim (λ w. w .1 ∙ sym (min-eq-right (w .0 .taken)) ∙ step) (λ w. w .1 ∙ sym (min-eq-left (le-trans (w .0 .left) (lit≤ tt))) ∙ step) (c .if1 .came),
     )
 
-returns : tie.Need-returns Inv-loop μ-loop
-returns c =
+all-sizes : tie.Need-returns Inv-loop μ-loop
+all-sizes c =
     let i-is-n : c .before .loop .i ≡ c .before .before .args .n = omega arith in
     c .before .loop .inv .1 ∙ ap (λ (k : ℕ). min (product (take k (c .before .before .args .t1)) * c .before .before .args .m) (limit + 1)) i-is-n
 
 pub capped-spec : {M : Type 1} → statement M
+unfolding product
 capped-spec =
     tie.close
     (tie.spec
     Inv-loop
     μ-loop
-    loop-holds
-    array-read-t
-    cast-t
-    mul-t
-    add-t
-    add-i
-    loop-less
-    loop-again
-    returns)
+    (λ c. (search needs, sym (ap (λ (x : ℕ). min x (limit + 1)) (one-mul (c .args .m)) ∙ min-eq-left (omega arith))))
+    (λ c. search needs)
+    (λ c. search needs)
+    product-fits
+    (λ c. search needs)
+    (λ c. search needs)
+    (λ c. search needs)
+    one-size-more
+    all-sizes)

@@ -21,39 +21,20 @@ Inv-loop n sizes i₀ i = (i ≤ n) × ((k : ℕ) → k < i → eqb (common (tak
 abbrev μ-loop : tie.MeasureT-loop
 μ-loop n sizes i₀ i = n - i
 
-loop-holds : tie.Need-loop-holds Inv-loop μ-loop
-loop-holds c = (search needs, below-none _)
-
-array-read-if1 : tie.Need-array-read-if1 Inv-loop μ-loop
-array-read-if1 c = search needs
-
-array-read-if1-2 : tie.Need-array-read-if1-2 Inv-loop μ-loop
-array-read-if1-2 c = search needs
-
 -- in the loop some size is in use, so the first in use is the first
 first : (c : tie.In-loop Inv-loop μ-loop) → common (take (c .before .before .args .n) (c .before .before .args .t1)) ≡ getD (c .before .before .args .t1) 0 0
 first c = getD-take (c .before .before .args .n) (c .before .before .args .t1) 0 0 (omega arith)
 
-returns : tie.Need-returns Inv-loop μ-loop
-returns c =
+one-differs : tie.Need-returns Inv-loop μ-loop
+one-differs c =
     let n = c .before .before .before .args .n in
     let sizes = c .before .before .before .args .t1 in
     let i = c .before .before .loop .i in
     sym (first-fails (eqb (common (take n sizes))) sizes n (omega arith) i (omega arith)
     (ne-eqb _ _ (λ e. c .if1 .taken (sym e ∙ first (c .before)))))
 
-add-i : tie.Need-add-i Inv-loop μ-loop
-add-i c = search needs
-
-loop-less : tie.Need-loop-less Inv-loop μ-loop
-loop-less c = search needs
-
-loop-again : tie.Need-loop-again Inv-loop μ-loop
-loop-again c =
-    (search needs, below-more _ _ (c .before .before .loop .inv .1) (eq-eqb _ _ (first (c .before) ∙ sym (c .if1 .left))))
-
-returns-2 : tie.Need-returns-2 Inv-loop μ-loop
-returns-2 c =
+all-equal : tie.Need-returns-2 Inv-loop μ-loop
+all-equal c =
     let n = c .before .before .args .n in
     let sizes = c .before .before .args .t1 in
     sym (first-every (eqb (common (take n sizes))) sizes n (omega arith) (λ k h. c .before .loop .inv .1 k (omega arith)))
@@ -64,11 +45,11 @@ equal-spec =
     (tie.spec
     Inv-loop
     μ-loop
-    loop-holds
-    array-read-if1
-    array-read-if1-2
-    returns
-    add-i
-    loop-less
-    loop-again
-    returns-2)
+    (λ c. (search needs, below-none _))
+    (λ c. search needs)
+    (λ c. search needs)
+    one-differs
+    (λ c. search needs)
+    (λ c. search needs)
+    (λ c. (search needs, below-more _ _ (c .before .before .loop .inv .1) (eq-eqb _ _ (first (c .before) ∙ sym (c .if1 .left)))))
+    all-equal)

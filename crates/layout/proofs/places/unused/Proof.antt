@@ -1,0 +1,49 @@
+-- `layout::places::unused` meets its contract: every place passed holds 1, 1 and +0.0.
+-- Assumes nothing.
+use Prim.Native.Nat.{ℕ, _-_, _≤_, _<_}
+use native.Mathlib.Omega.{arith}
+use lib.Ieee.{ofBits}
+use borrow.Author.Needs.{needs}
+use borrow.Author.Count.{below-more}
+use borrow.Author.Tests.{not-false}
+use Rattle.layout.specs.Places.{UnusedAt}
+use Rattle.layout.proofs.Parts.{refuses, accepts, not-both, zero-is-number}
+use Rattle.layout.proofs.places.unused.Statement.{statement}
+use Rattle.layout.proofs.places.unused.Tie as tie
+
+abbrev Inv-loop : tie.InvT-loop
+Inv-loop n strides filling scale i₀ i = (n ≤ i) × (i ≤ 16) × ((k : ℕ) → k < i → n ≤ k → UnusedAt strides filling scale k)
+
+abbrev μ-loop : tie.MeasureT-loop
+μ-loop n strides filling scale i₀ i = 16 - i
+
+one-place-more : tie.Need-loop-again Inv-loop μ-loop
+unfolding ofBits
+one-place-more c =
+    let else2 = c .before .before in
+    let else1 = else2 .before in
+    let zero = c .before .same-bits .ensures .0 (not-false _ (c .if3 .left)) in
+    (search needs, search needs, below-more _ _ (else1 .before .before .loop .inv .2) (λ l. record { stride-is = else1 .if1 .left; filling-is = else2 .if2 .left; scale-is = zero }))
+
+pub unused-spec : {M : Type 1} → statement M
+unfolding ofBits
+unused-spec =
+    tie.close
+    (tie.spec
+    Inv-loop
+    μ-loop
+    (λ c. (search needs, search needs, (λ k h l. absurd (omega arith))))
+    (λ c. search needs)
+    (λ c. search needs)
+    (λ c. refuses (λ all. c .if1 .taken (all _ (omega arith) (omega arith) .stride-is)))
+    (λ c. search needs)
+    (λ c. search needs)
+    (λ c. refuses (λ all. c .if2 .taken (all _ (omega arith) (omega arith) .filling-is)))
+    (λ c. search needs)
+    (λ c. search needs)
+    (λ c κs. search needs)
+    (λ c. refuses (λ all. not-both _ (c .if3 .taken) (c .before .same-bits .ensures .1 (all _ (omega arith) (omega arith) .scale-is) zero-is-number)))
+    (λ c. search needs)
+    (λ c. search needs)
+    one-place-more
+    (λ c. accepts (λ i h l. c .before .loop .inv .2 i (omega arith) l)))

@@ -1,0 +1,64 @@
+-- Laws of what a call leaves in a lent buffer: the length, each entry, and that nothing else determines it.
+-- Assumes nothing.
+use Prim.Native.Nat.{ℕ, zero, suc, _+_, _≤_, _<_}
+use mathlib.Core.Path.{_≡_, refl, sym, _∙_}
+use mathlib.Core.List.{List}
+use native.Mathlib.Nat.{not-suc-le-zero}
+use native.Mathlib.Numerals.{add-one}
+use native.Mathlib.Decide.{decLt}
+use native.Mathlib.Omega.{arith}
+use lib.ListN.{length, getD, set, length-set}
+use lib.Seq.{getD-set-same, getD-set-other, ext-getD}
+use Rattle.lists.specs.Buffer.{written, left}
+
+module _ {A : Type 0} (f : ℕ → A) where
+  pub length-written : (m : ℕ) (old : List A) → length (written f m old) ≡ length old
+  unfolding written
+  length-written zero old = refl
+  length-written (suc m) old = simp length-set (length-written m old)
+
+  -- a store at the next place
+  pub written-next : (k : ℕ) (old : List A) → set (written f k old) k (f k) ≡ written f (k + 1) old
+  unfolding written
+  written-next k old = rw (add-one k)
+
+  -- the places from m on are kept
+  pub written-past : (m : ℕ) (old : List A) (k : ℕ) (d : A) → m ≤ k → getD (written f m old) k d ≡ getD old k d
+  unfolding written
+  written-past zero old k d h = refl
+  written-past (suc m) old k d h = getD-set-other (written f m old) m k (f m) d (λ e. omega arith) ∙ written-past m old k d (omega arith)
+
+  -- the places below m are set
+  pub written-at : (m : ℕ) (old : List A) (k : ℕ) (d : A) → k < m → m ≤ length old → getD (written f m old) k d ≡ f k
+  unfolding written
+  written-at zero old k d h l = absurd (not-suc-le-zero h)
+  written-at (suc m) old k d h l =
+      elim (decLt k m) [
+        | yes low ↦ getD-set-other (written f m old) m k (f m) d (λ e. omega arith) ∙ written-at m old k d low (omega arith)
+        | no high ↦
+            let last : k ≡ m = omega arith in
+            rw last (getD-set-same (written f m old) m (f m) d (omega (arith, length-written m old)))
+      ]
+
+  -- a list of that length and with those entries is the written one
+  pub written-is : (m : ℕ) (old new : List A) (d : A) → m ≤ length old → length new ≡ length old
+      → ((k : ℕ) → k < m → getD new k d ≡ f k)
+      → ((k : ℕ) → m ≤ k → getD new k d ≡ getD old k d)
+      → new ≡ written f m old
+  written-is m old new d l e set-to kept =
+      ext-getD d new (written f m old) (e ∙ sym (length-written m old)) (λ k h.
+      elim (decLt k m) [
+        | yes low ↦ set-to k low ∙ sym (written-at m old k d low l)
+        | no high ↦ kept k (omega arith) ∙ sym (written-past m old k d (omega arith))
+      ])
+
+-- it depends on the rule below m alone
+pub written-same : {A : Type 0} (f g : ℕ → A) (m : ℕ) (old : List A) → ((k : ℕ) → k < m → f k ≡ g k) → written f m old ≡ written g m old
+unfolding written
+written-same f g zero old h = refl
+written-same f g (suc m) old h = rw (written-same f g m old (λ k l. h k (omega arith)), h m (omega arith))
+
+-- on a refusal the length is kept too
+pub length-left : {A : Type 0} (r : ℕ) (f : ℕ → A) (m : ℕ) (old : List A) → length (left r f m old) ≡ length old
+length-left zero f m old = length-written f m old
+length-left (suc r) f m old = refl

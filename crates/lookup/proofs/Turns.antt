@@ -1,0 +1,40 @@
+-- A loop that sets one entry of a buffer a turn. Assumes nothing.
+use Prim.Native.Nat.{ℕ, _+_, _≤_, _<_}
+use mathlib.Core.Path.{_≡_, refl, ap, ap₂, _∙_}
+use mathlib.Core.List.{List}
+use native.Mathlib.Omega.{arith}
+use lib.Ieee.{Float, nan}
+use lib.ListN.{length, getD, set, length-set}
+use Rattle.lists.specs.Buffer.{written}
+use Rattle.lists.proofs.Buffer.{length-written, written-next, written-past}
+
+-- after o of m turns the buffer, which was `old`, is `now`
+pub record Turned (f : ℕ → Float) (m : ℕ) (old now : List Float) (o : ℕ) : Type 0 where
+  pub most : o ≤ m
+  pub room : length now ≡ length old
+  pub set-to : now ≡ written f o old
+
+module _ (f : ℕ → Float) (m : ℕ) (old : List Float) where
+  pub turned-none : Turned f m old old 0
+  unfolding written
+  turned-none = record { most = omega arith; room = refl; set-to = refl }
+
+  module _ (now : List Float) (o : ℕ) (turned : Turned f m old now o) where
+    pub turned-more : o < m → (v : Float) → v ≡ f o → Turned f m old (set now o v) (o + 1)
+    turned-more less v is =
+        record {
+          most = omega arith;
+          room = simp length-set (turned .room);
+          set-to = ap₂ (λ (l : List Float) (x : Float). set l o x) (turned .set-to) is ∙ written-next f o old;
+        }
+
+    pub turned-all : m ≤ o → now ≡ written f m old
+    turned-all all = let same : o ≡ m = omega arith in turned .set-to ∙ ap (λ (k : ℕ). written f k old) same
+
+    -- an entry that no turn has set
+    pub not-yet : (k : ℕ) → o ≤ k → getD now k nan ≡ getD old k nan
+    not-yet k h = ap (λ (l : List Float). getD l k nan) (turned .set-to) ∙ written-past f o old k nan h
+
+-- a buffer that was written is as long as before
+pub same-room : (f : ℕ → Float) (m : ℕ) (old now : List Float) → now ≡ written f m old → length now ≡ length old
+same-room f m old now e = ap length e ∙ length-written f m old

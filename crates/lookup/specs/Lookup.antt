@@ -1,0 +1,29 @@
+-- What a lookup means, over a grid function: f takes a node's coordinates, LAST INK FIRST, to the entry stored there. The cells come last ink first too.
+-- Definitions only.
+use Prim.Native.Nat.{ℕ}
+use mathlib.Core.Bool.{Bool, true, false}
+use mathlib.Core.List.{List, [], _∷_}
+use lib.Ieee.{Float}
+use Rattle.binary32.specs.Blend.{lerp, along, square, tetra}
+use Rattle.cell.specs.declared.Cell.{Cell}
+
+abbrev pub Grid : Type 0
+Grid = List ℕ → Float
+
+-- a cell's lower node (false) or its upper one (true)
+abbrev pub node : Cell → Bool → ℕ
+node c false = c .x
+node c true = c .«x_n»
+
+-- the grid of the other inks, where the last ink stands on line k
+abbrev pub part : Grid → ℕ → Grid
+part f k ks = f (k ∷ ks)
+
+-- With no ink the answer is the one entry; one ink, two inks and three have their own blends; from the fourth ink on the answer lies between two
+-- lookups with one ink fewer, in the parts at the last ink's lower and upper node.
+unfoldable pub lookup : Grid → List Cell → Float
+lookup f [] = f []
+lookup f (c ∷ []) = along (f (c .x ∷ [])) (f (c .«x_n» ∷ [])) (c .w)
+lookup f (d ∷ c ∷ []) = square (λ i j. f (node d j ∷ node c i ∷ [])) (c .w) (d .w)
+lookup f (e ∷ d ∷ c ∷ []) = tetra (λ i j k. f (node e k ∷ node d j ∷ node c i ∷ [])) (c .w) (d .w) (e .w)
+lookup f (h ∷ e ∷ d ∷ c ∷ cs) = lerp (lookup (part f (h .x)) (e ∷ d ∷ c ∷ cs)) (lookup (part f (h .«x_n»)) (e ∷ d ∷ c ∷ cs)) (h .w)

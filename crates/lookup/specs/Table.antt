@@ -1,0 +1,49 @@
+-- A lookup in a table: the cells of the inputs, the answer at each output, what is refused, and what a call leaves in the answer buffer. Definitions only.
+use Prim.Native.Nat.{ℕ, _+_, _*_}
+use mathlib.Core.Path.{_≡_}
+use mathlib.Core.Bool.{Bool, cond, not}
+use mathlib.Core.List.{List, [], _∷_}
+use lib.Dec.{ltb, eqb}
+use lib.Ieee.{Float, nan}
+use lib.ListN.{length, getD}
+use Rattle.outcome.specs.Outcome.{Decides}
+use Rattle.lists.specs.Buffer.{left}
+use Rattle.cell.specs.declared.Cell.{Cell}
+use Rattle.cell.specs.Rule.{cellLow, cellHigh}
+use Rattle.layout.specs.declared.MultidimensionalLut.{MultidimensionalLut}
+use Rattle.layout.specs.Order.{index}
+use Rattle.layout.specs.Layout.{IsLayout, inkSizes, entries}
+use Rattle.lookup.specs.Lookup.{Grid, lookup}
+
+-- output o of each node: a node's m outputs stand together, in ICC.1's order of the nodes
+abbrev pub output : MultidimensionalLut → List Float → ℕ → Grid
+output lut table o ks = getD table (index (inkSizes lut) ks * lut .«output_inks» + o) nan
+
+-- the cell of ink i, counted from 0, in a grid of g lines: inks 1 to 4 take one rule, inks 5 and up the other
+unfoldable pub inkCell : ℕ → ℕ → Float → Cell
+inkCell i g x = cond (ltb i 4) (cellLow x g) (cellHigh x g)
+
+-- the cells of the inputs xs, last ink first, as the sizes are: the head of the sizes belongs to the ink of the rest's length
+unfoldable pub cells : List ℕ → List Float → List Cell
+cells [] xs = []
+cells (g ∷ gs) xs = inkCell (length gs) g (getD xs (length gs) nan) ∷ cells gs xs
+
+-- the answer at output o
+unfoldable pub answerAt : MultidimensionalLut → List Float → List Float → ℕ → Float
+answerAt lut table xs o = lookup (output lut table o) (cells (inkSizes lut) xs)
+
+-- 9 not a layout's record, 6 a short table, 7 the number of inputs, 8 a short answer buffer: the first that applies, and 0 where none does
+unfoldable pub refusal : Bool → MultidimensionalLut → ℕ → ℕ → ℕ → ℕ
+refusal laid lut table inputs room =
+    cond (not laid) 9
+    (cond (ltb table (entries lut)) 6
+    (cond (not (eqb inputs (lut .«input_inks»))) 7
+    (cond (ltb room (lut .«output_inks»)) 8
+    0)))
+
+-- what a lookup owes: its number r, and the answer buffer afterwards, `now`, which was `old`
+pub record Looked (lut : MultidimensionalLut) (table inputs old : List Float) (r : ℕ) (now : List Float) : Type 0 where
+  pub laid : Bool
+  pub decides : Decides laid (IsLayout lut)
+  pub number : r ≡ refusal laid lut (length table) (length inputs) (length old)
+  pub entries : now ≡ left r (answerAt lut table inputs) (lut .«output_inks») old

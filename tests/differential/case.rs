@@ -1,0 +1,159 @@
+//! What a compared call is, how one that differs is made small, and how many of each kind were compared.
+
+use std::time::{Duration, Instant};
+
+/// One call that the library and the oracle both answer.
+pub trait Case: Sized {
+    /// The number that document 01 gives.
+    fn number(&self) -> u32;
+    /// What differs, in words; nothing where both agree.
+    fn difference(&self) -> Option<String>;
+    /// Offers simpler calls one by one until one is taken.
+    fn smaller(&self, take: &mut dyn FnMut(Self) -> bool);
+    /// The whole call, so that it can be made again.
+    fn shown(&self) -> String;
+}
+
+/// The counts of a run. The first difference ends it.
+pub struct Run {
+    counts: Vec<(&'static str, u64)>,
+    numbers: [u64; 11],
+    began: Instant,
+}
+
+impl Run {
+    pub fn new() -> Run {
+        Run { counts: Vec::new(), numbers: [0; 11], began: Instant::now() }
+    }
+
+    /// Opens a kind of calls; what is held from here on counts to it.
+    pub fn kind(&mut self, name: &'static str) {
+        self.close();
+        self.counts.push((name, 0));
+        self.began = Instant::now();
+    }
+
+    /// Prints the count of the open kind.
+    fn close(&mut self) {
+        if let Some((name, count)) = self.counts.last() {
+            println!("{count:>10}  {name} ({:.1} s)", self.began.elapsed().as_secs_f64());
+        }
+    }
+
+    /// Compares one call.
+    #[inline]
+    pub fn hold<C: Case>(&mut self, case: C) {
+        self.hold_ref(&case);
+    }
+
+    #[inline]
+    pub fn hold_ref<C: Case>(&mut self, case: &C) {
+        if let Some(count) = self.counts.last_mut() {
+            count.1 += 1;
+        }
+        self.numbers[case.number() as usize] += 1;
+        if case.difference().is_some() {
+            self.fail(case);
+        }
+    }
+
+    #[cold]
+    fn fail<C: Case>(&mut self, case: &C) -> ! {
+        let (kind, count) = self.counts.last().copied().unwrap_or(("", 0));
+        println!("DIFFERENT at call {count} of the kind: {kind}");
+        println!("found:   {}", case.difference().unwrap_or_default());
+        let small = shrink(case);
+        let small = small.as_ref().unwrap_or(case);
+        println!("reduced: {}", small.difference().unwrap_or_default());
+        println!("{}", small.shown());
+        std::process::exit(1);
+    }
+
+    /// Ends the run: how many calls gave each number, and the sum.
+    pub fn end(&mut self) {
+        self.close();
+        let told: Vec<String> = self.numbers.iter().enumerate().filter(|(_, &count)| count > 0).map(|(k, count)| format!("{k}: {count}")).collect();
+        println!("            by number: {}", told.join(", "));
+        println!("{:>10}  calls compared, none different", self.counts.iter().map(|c| c.1).sum::<u64>());
+    }
+}
+
+/// Takes simpler calls as long as they still differ, for at most twenty seconds.
+fn shrink<C: Case>(case: &C) -> Option<C> {
+    let until = Instant::now() + Duration::from_secs(20);
+    let mut small: Option<C> = None;
+    loop {
+        let mut next = None;
+        small.as_ref().unwrap_or(case).smaller(&mut |c| {
+            let taken = Instant::now() > until || c.difference().is_some();
+            if taken && next.is_none() && Instant::now() <= until {
+                next = Some(c);
+            }
+            taken
+        });
+        match next {
+            Some(c) => small = Some(c),
+            None => return small,
+        }
+    }
+}
+
+/// Bits that no call should leave changed: signalling NaNs, another at each place.
+pub fn sentinel(place: usize) -> f32 {
+    f32::from_bits(0x7FA5_0000 + place as u32)
+}
+
+/// How many sentinels stand before and after every lent buffer.
+pub const GUARD: usize = 4;
+
+/// A buffer of `len` sentinels with guards around it.
+pub fn guarded(len: usize) -> Vec<f32> {
+    (0..len + 2 * GUARD).map(sentinel).collect()
+}
+
+/// Compares a guarded buffer with what it should hold: the answers, then untouched sentinels. Answers that are NaN
+/// agree without their payload, and zeros must agree in sign.
+pub fn compare(buffer: &[f32], answers: &[f32]) -> Option<String> {
+    for (place, &got) in buffer.iter().enumerate() {
+        let answer = place.checked_sub(GUARD).and_then(|o| answers.get(o));
+        let right = match answer {
+            Some(a) => a.to_bits() == got.to_bits() || (a.is_nan() && got.is_nan()),
+            None => got.to_bits() == sentinel(place).to_bits(),
+        };
+        if !right {
+            let at = place as isize - GUARD as isize;
+            return Some(match answer {
+                Some(a) => format!("answer {at} is {}, not {}", number(got), number(*a)),
+                None => format!("entry {at} of the answer buffer was touched: {}", number(got)),
+            });
+        }
+    }
+    None
+}
+
+/// A float as its bits and its value.
+pub fn number(x: f32) -> String {
+    format!("{:08X} ({x:e})", x.to_bits())
+}
+
+/// A list of floats; of a long one only what is not +0.0.
+pub fn numbers(list: &[f32]) -> String {
+    let told: Vec<String> = list
+        .iter()
+        .enumerate()
+        .filter(|(_, x)| list.len() <= 16 || x.to_bits() != 0)
+        .take(64)
+        .map(|(i, x)| format!("[{i}] {}", number(*x)))
+        .collect();
+    format!("{} entries: {}{}", list.len(), told.join(", "), if list.len() > 16 { ", all others +0.0 or left out after 64" } else { "" })
+}
+
+/// How plain a float is: simpler calls hold plainer ones.
+pub fn plainness(x: f32) -> u32 {
+    match x.to_bits() {
+        0 => 0,
+        0x3F80_0000 => 1,
+        0x3F00_0000 => 2,
+        _ => 3,
+    }
+}

@@ -1,0 +1,133 @@
+//! Lookups over whole sets of special inputs, and the products at which p+1 skips a node.
+
+use crate::case::Run;
+use crate::lookups::Lookup;
+use crate::values::{fill_table, random_inputs, skipping, special_inputs, Rng};
+use oracle::expected;
+
+/// A table of shares of 0 to 1, and one of a random sort.
+fn tables(rng: &mut Rng, g: u8, n: usize, m: usize) -> [Vec<f32>; 2] {
+    let total = expected::total(g, n, m) as usize;
+    let mut sorted = vec![0.0; total];
+    fill_table(rng, &mut sorted);
+    [(0..total).map(|_| rng.unit()).collect(), sorted]
+}
+
+/// Every choice of n of the values.
+fn every(values: &[f32], n: usize, mut call: impl FnMut(&[f32])) {
+    let mut places = vec![0; n];
+    let mut inputs = vec![values[0]; n];
+    loop {
+        call(&inputs);
+        let Some(ink) = (0..n).find(|&i| places[i] + 1 < values.len()) else { return };
+        for i in 0..=ink {
+            places[i] = if i == ink { places[i] + 1 } else { 0 };
+            inputs[i] = values[places[i]];
+        }
+    }
+}
+
+/// One to three inks: every choice of special inputs.
+pub fn short(run: &mut Run, rng: &mut Rng, long: bool) {
+    run.kind("one ink, g 1 to 255, every special input");
+    for g in 1..=255 {
+        for m in 1..=4 {
+            for table in tables(rng, g, 1, m) {
+                every(&special_inputs(g), 1, |inputs| run.hold(Lookup::good(g, 1, m, &table, inputs)));
+            }
+        }
+    }
+    run.kind("two inks, g 1 to 4 and larger, every pair of special inputs");
+    for g in [1, 2, 3, 4, 5, 9, 10, 17, 18, 33, 34, 65, 66, 129, 130, 255] {
+        for m in if g < 5 { 1..=4 } else { 1..=1 } {
+            for table in tables(rng, g, 2, m) {
+                every(&special_inputs(g), 2, |inputs| run.hold(Lookup::good(g, 2, m, &table, inputs)));
+            }
+        }
+    }
+    run.kind("three inks, g 1 to 4, every triple of special inputs");
+    for g in 1..=4 {
+        for m in 1..=if long { 8 } else { 3 } {
+            for table in tables(rng, g, 3, m) {
+                every(&special_inputs(g), 3, |inputs| run.hold(Lookup::good(g, 3, m, &table, inputs)));
+            }
+        }
+    }
+    run.kind("three to five inks, g 2 and 3, every choice of ten inputs");
+    let ten = [0x0000_0000, 0x8000_0000, 0x0000_0001, 0x3E80_0000, 0x3EFF_FFFF, 0x3F00_0000, 0x3F40_0000, 0x3F7F_FFFF, 0x3F80_0000, 0x7FC0_0000];
+    let ten = ten.map(f32::from_bits);
+    for (g, n) in [(2, 3), (3, 3), (2, 4), (3, 4), (2, 5), (3, 5)] {
+        for table in tables(rng, g, n, 1) {
+            every(&ten, n, |inputs| run.hold(Lookup::good(g, n, 1, &table, inputs)));
+        }
+    }
+}
+
+/// Each ink at each product just under a power of two, the others random. The table of n inks bounds g.
+pub fn skips(run: &mut Run, rng: &mut Rng, long: bool) {
+    run.kind("each ink just under each power of two, two to fifteen inks");
+    for n in 2..=15 {
+        let bound = if long { 40_000_000 } else { 2_000_000 };
+        let sizes: Vec<u8> = [3, 4, 5, 6, 9, 10, 17, 18, 33, 34, 65, 66, 129, 130, 255]
+            .into_iter()
+            .filter(|&g| g == 3 || expected::total(g, n, 1) <= bound)
+            .collect();
+        for g in sizes {
+            for table in tables(rng, g, n, 1) {
+                each_skip(run, rng, g, n, &table);
+            }
+        }
+    }
+}
+
+fn each_skip(run: &mut Run, rng: &mut Rng, g: u8, n: usize, table: &[f32]) {
+    let mut inputs = vec![0.0; n];
+    for product in skipping(g) {
+        for ink in 0..n {
+            for _ in 0..if n < 9 { 12 } else { 2 } {
+                random_inputs(rng, g, &mut inputs);
+                inputs[ink] = product;
+                run.hold(Lookup::good(g, n, 1, table, &inputs));
+            }
+        }
+    }
+}
+
+/// Document 01's lookups with checked answers: the oracle is held to them too.
+pub fn checked(run: &mut Run) {
+    run.kind("document 01's checked lookups (P6, P7, P8, 12)");
+    let mut corner = vec![0.0; 8];
+    corner[7] = 1.0;
+    let mut case_12 = vec![0.0; 243];
+    case_12[2] = 1.0;
+    let ink_5 = f32::from_bits(0x3EFF_FFFF);
+    let cases: [(u8, &[f32], &[f32], u32); 6] = [
+        (2, &[0.0, 1.0], &[0.25], 0x3E80_0000),
+        (2, &[0.0, 1.0], &[f32::NAN], 0),
+        (2, &[0.0, 1.0], &[2.0], 0x3F80_0000),
+        (2, &[0.0, 1.0, 2.0, 3.0], &[0.5, 0.25], 0x3FA0_0000),
+        (2, &corner, &[0.5, 0.25, 0.75], 0x3E80_0000),
+        (3, &case_12, &[0.0, 0.0, 0.0, 0.0, ink_5], 0x3F7F_FFFF),
+    ];
+    for (g, table, inputs, bits) in cases {
+        let answer = oracle::lookup(g, inputs.len(), 1, table, inputs)[0].to_bits();
+        assert_eq!(answer, bits, "the oracle itself does not give document 01's answer");
+        run.hold(Lookup::good(g, inputs.len(), 1, table, inputs));
+    }
+}
+
+/// Signalling NaN inputs, on machines where they are not left out.
+pub fn signalling(run: &mut Run, rng: &mut Rng) {
+    run.kind("signalling NaN inputs");
+    for n in 1..=8 {
+        for g in 1..=3 {
+            let [table, _] = tables(rng, g, n, 2);
+            let mut inputs = vec![0.0; n];
+            for i in 0..200 {
+                random_inputs(rng, g, &mut inputs);
+                inputs[i % n] = f32::from_bits(rng.pick(&[0x7F80_0001, 0x7FBF_FFFF, 0xFF80_0001, 0xFFA5_A5A5]));
+                run.hold(Lookup::good(g, n, 2, &table, &inputs));
+            }
+        }
+    }
+}

@@ -1,0 +1,78 @@
+//! Lookups in tables up to the largest total, 4,294,967,295 entries: offsets near the limit of 32 bits. Such a table is
+//! 17 GB of address space whose pages are never touched, but for the few nodes around the inputs. Where the system does
+//! not lend so much address space the kind says so and compares nothing.
+
+use crate::case::Run;
+use crate::lookups::Lookup;
+use crate::values::{before, random_inputs, with_product, Rng};
+use oracle::expected;
+use std::ffi::c_void;
+
+extern "C" {
+    fn mmap(address: *mut c_void, len: usize, protection: i32, flags: i32, file: i32, offset: i64) -> *mut c_void;
+    fn munmap(address: *mut c_void, len: usize) -> i32;
+}
+
+/// Zeros without memory of their own: read and write, private, anonymous, not reserved (the Linux numbers).
+struct Zeros {
+    start: *mut f32,
+    entries: usize,
+}
+
+impl Zeros {
+    fn new(entries: usize) -> Option<Zeros> {
+        let start = unsafe { mmap(std::ptr::null_mut(), entries * 4, 1 | 2, 0x2 | 0x20 | 0x4000, -1, 0) };
+        (start as isize != -1).then_some(Zeros { start: start.cast(), entries })
+    }
+    fn entries(&mut self) -> &mut [f32] {
+        unsafe { std::slice::from_raw_parts_mut(self.start, self.entries) }
+    }
+}
+
+impl Drop for Zeros {
+    fn drop(&mut self) {
+        unsafe { munmap(self.start.cast(), self.entries * 4) };
+    }
+}
+
+pub fn lookups(run: &mut Run, rng: &mut Rng, long: bool) {
+    run.kind("lookups in tables of up to 4,294,967,295 entries");
+    // The largest accepted layouts for four to eight inks; five of 66 lines, where a product just under 64 skips a node.
+    for (g, n, m) in [(255, 4, 1), (138, 4, 11), (84, 5, 1), (66, 5, 3), (40, 6, 1), (23, 7, 1), (15, 8, 1)] {
+        assert_eq!(expected::layout(&[g; 16], n, m), 0);
+        let Some(mut zeros) = Zeros::new(expected::total(g, n, m) as usize) else {
+            println!("            no address space for g {g}, n {n}, m {m}: left out");
+            continue;
+        };
+        let mut inputs = vec![0.0; n];
+        for i in 0..if long { 400 } else { 40 } {
+            random_inputs(rng, g, &mut inputs);
+            match i % 4 {
+                0 => inputs.fill(1.0),
+                1 => inputs.fill(before(1.0)),
+                2 => inputs[n - 1 - i / 4 % 2] = with_product(g, before(64.0)).unwrap_or(1.0),
+                _ => {}
+            }
+            around(rng, zeros.entries(), g, n, m, &inputs);
+            run.hold(Lookup::good(g, n, m, &*zeros.entries(), &inputs));
+        }
+    }
+}
+
+/// Random entries at the nodes around the inputs: those of each ink's line, of the next and of the one after it.
+fn around(rng: &mut Rng, table: &mut [f32], g: u8, n: usize, m: usize, inputs: &[f32]) {
+    let last = g as usize - 1;
+    let lines: Vec<[usize; 3]> = inputs
+        .iter()
+        .map(|x| {
+            let low = (x.max(0.0).min(1.0) * last as f32) as usize;
+            [low, (low + 1).min(last), (low + 2).min(last)]
+        })
+        .collect();
+    for corner in 0..3usize.pow(n as u32) {
+        let node: Vec<usize> = (0..n).map(|i| lines[i][corner / 3usize.pow(i as u32) % 3]).collect();
+        for entry in &mut table[expected::node_offset(g, m, &node)..][..m] {
+            *entry = rng.unit();
+        }
+    }
+}

@@ -1,0 +1,69 @@
+//! Lookups at and around every limit, alone and two at a time, so that the order of the refusals shows.
+
+use crate::case::Run;
+use crate::lookups::Lookup;
+use crate::values::{fill_table, random_inputs, Rng};
+use oracle::expected;
+
+/// Counts that are outside 1..15, or would be inside if they were cut to fewer bits.
+pub const COUNTS: [usize; 10] =
+    [0, 16, 17, 255, 256 + 3, (1 << 16) + 3, (1 << 32) + 3, (1 << 32) + 1, 1 << 63, usize::MAX];
+
+/// What may be wrong with the sizes.
+fn damaged_sizes(g: u8, n: usize) -> Vec<[u8; 16]> {
+    let mut list = vec![[g; 16]];
+    for place in [0, n - 1, n.min(15), 15] {
+        for size in [0, g ^ 1, 255] {
+            let mut sizes = [g; 16];
+            sizes[place] = size;
+            list.push(sizes);
+        }
+    }
+    // A zero and another size at once: 3 before 4, wherever they stand.
+    if n > 2 {
+        for (zero, other) in [(n - 1, 1), (1, n - 1)] {
+            let mut sizes = [g; 16];
+            (sizes[zero], sizes[other]) = (0, g ^ 1);
+            list.push(sizes);
+        }
+    }
+    list
+}
+
+pub fn lookups(run: &mut Run, rng: &mut Rng) {
+    run.kind("lookups around every limit, every pair of them");
+    for (g, n, m) in [(1, 1, 1), (1, 15, 15), (2, 1, 1), (2, 2, 3), (3, 3, 4), (2, 4, 15), (3, 5, 1), (2, 8, 3), (2, 11, 1), (255, 1, 2)] {
+        let total = expected::total(g, n, m) as usize;
+        let mut table = vec![0.0; total + 1];
+        fill_table(rng, &mut table);
+        let mut inputs = vec![0.0; 17];
+        random_inputs(rng, g, &mut inputs);
+        let ns: Vec<usize> = COUNTS.iter().copied().chain([n, n - 1, n + 1]).collect();
+        let ms: Vec<usize> = COUNTS.iter().copied().chain([m, m - 1, m + 1]).collect();
+        let whole = (g, n, m, total);
+        // Counts against everything, with the sizes as they are; then the sizes against everything.
+        for &n_asked in &ns {
+            for &m_asked in &ms {
+                lent(run, whole, [g; 16], n_asked, m_asked, &table, &inputs);
+            }
+        }
+        for sizes in damaged_sizes(g, n) {
+            for (n_asked, m_asked) in [(n, m), (n, 16), (16, m), (n, 0), (n + 1, m)] {
+                lent(run, whole, sizes, n_asked, m_asked, &table, &inputs);
+            }
+        }
+    }
+}
+
+/// One layout with every choice of short, exact and long table, inputs and buffer.
+fn lent(run: &mut Run, whole: (u8, usize, usize, usize), sizes: [u8; 16], n: usize, m: usize, table: &[f32], inputs: &[f32]) {
+    let (_, inks, outputs, total) = whole;
+    for table_len in [total - 1, total, total + 1, 0] {
+        for inputs_len in [inks - 1, inks, inks + 1, 0, 17] {
+            for answer in [outputs - 1, outputs, outputs + 1, 0] {
+                let (table, inputs) = ((&table[..table_len]).into(), inputs[..inputs_len].to_vec());
+                run.hold(Lookup { sizes, n, m, table, inputs, answer });
+            }
+        }
+    }
+}

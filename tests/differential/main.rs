@@ -1,0 +1,44 @@
+//! The library against the oracle: the same calls to both, and every bit compared.
+//!
+//! Arguments: the number of random lookups (default 200,000), the seed (default 1), and `long` for larger sets.
+//! Exit status 0 where all agree; 1 at the first difference, which is then reduced and printed in full.
+
+mod case;
+mod cubes;
+mod exhaustive;
+mod huge;
+mod layouts;
+mod library;
+mod limits;
+mod lookups;
+mod nodes;
+mod random;
+mod values;
+
+fn main() {
+    let words: Vec<String> = std::env::args().skip(1).collect();
+    let number = |place: usize, default| words.get(place).map_or(default, |w| w.parse().expect("a number"));
+    let (count, seed) = (number(0, 200_000), number(1, 1));
+    let long = words.get(2).is_some_and(|w| w == "long");
+    println!("differential: {count} random lookups, seed {seed}{}", if long { ", long" } else { "" });
+    println!("An input of -0.0 is handed to the Rust text as +0.0: Rust leaves the sign of its clip open.");
+    if values::SIGNALLING_LEFT_OUT {
+        println!("Signalling NaN inputs are left out on Arm: the compiled Rust clips them to 1 there, document 01 to +0.0.");
+    }
+    let (run, rng) = (&mut case::Run::new(), &mut values::Rng(seed));
+    exhaustive::checked(run);
+    layouts::all(run, rng);
+    cubes::weights(run);
+    nodes::all(run, rng);
+    limits::lookups(run, rng);
+    exhaustive::short(run, rng, long);
+    exhaustive::skips(run, rng, long);
+    if !values::SIGNALLING_LEFT_OUT {
+        exhaustive::signalling(run, rng);
+    }
+    random::lookups(run, rng, count);
+    random::damaged(run, rng, count / 2);
+    cubes::cubes(run, rng, count / 4);
+    huge::lookups(run, rng, long);
+    run.end();
+}

@@ -1,0 +1,146 @@
+//! Random numbers, the special values, and inputs with a wanted product.
+
+/// A small generator (splitmix64), the same on every machine.
+pub struct Rng(pub u64);
+
+impl Rng {
+    pub fn next(&mut self) -> u64 {
+        self.0 = self.0.wrapping_add(0x9E37_79B9_7F4A_7C15);
+        let mut z = self.0;
+        z = (z ^ (z >> 30)).wrapping_mul(0xBF58_476D_1CE4_E5B9);
+        z = (z ^ (z >> 27)).wrapping_mul(0x94D0_49BB_1331_11EB);
+        z ^ (z >> 31)
+    }
+    pub fn below(&mut self, end: usize) -> usize {
+        (self.next() >> 11) as usize % end
+    }
+    pub fn within(&mut self, from: usize, to: usize) -> usize {
+        from + self.below(to - from + 1)
+    }
+    pub fn one_in(&mut self, k: usize) -> bool {
+        self.below(k) == 0
+    }
+    pub fn pick<T: Copy>(&mut self, list: &[T]) -> T {
+        list[self.below(list.len())]
+    }
+    /// A share of 0 to below 1, one of 2²⁴.
+    pub fn unit(&mut self) -> f32 {
+        (self.next() >> 40) as f32 / 16_777_216.0
+    }
+    pub fn bits(&mut self) -> f32 {
+        f32::from_bits((self.next() >> 16) as u32)
+    }
+}
+
+/// The compiled Rust clips a signalling NaN to 1 on Arm: the processor's maximum answers a quiet NaN there, and its
+/// minimum then takes the other operand. A compiler may make the same maximum of `if x > 0.0 { x } else { 0.0 }`, so the
+/// library's native archive may answer NaN. Neither says anything about document 01: on Arm they are left out.
+pub const SIGNALLING_LEFT_OUT: bool = cfg!(target_arch = "aarch64");
+
+/// An input that the oracle may be asked about.
+pub fn askable(x: f32) -> f32 {
+    if SIGNALLING_LEFT_OUT && x.is_nan() { f32::from_bits(x.to_bits() | 0x0040_0000) } else { x }
+}
+
+/// The next float below or above a positive one.
+pub fn before(x: f32) -> f32 {
+    f32::from_bits(x.to_bits() - 1)
+}
+pub fn after(x: f32) -> f32 {
+    f32::from_bits(x.to_bits() + 1)
+}
+
+/// Inputs of every sort: zeros, subnormals, tiny, around 1, above, infinities, NaN, negatives.
+pub const SPECIAL: [u32; 22] = [
+    0x0000_0000, 0x8000_0000, 0x0000_0001, 0x8000_0001, 0x007F_FFFF, 0x0080_0000, 0x0D80_0000, 0x3300_0000, 0x3E80_0000, 0x3EFF_FFFF,
+    0x3F00_0000, 0x3F00_0001, 0x3F7F_FFFF, 0x3F80_0000, 0x3F80_0001, 0x4000_0000, 0x7F7F_FFFF, 0x7F80_0000, 0xFF80_0000, 0x7FC0_0000,
+    0xFFC0_1234, 0xBF80_0000,
+];
+
+/// Table entries of every sort; a signalling NaN too, for no entry is answered without arithmetic.
+pub const ENTRIES: [u32; 16] = [
+    0x0000_0000, 0x8000_0000, 0x0000_0001, 0x8000_0001, 0x007F_FFFF, 0x0080_0000, 0x3F00_0000, 0x3F80_0000, 0xBF80_0000, 0x3F7F_FFFF,
+    0x7F7F_FFFF, 0xFF7F_FFFF, 0x7F80_0000, 0xFF80_0000, 0x7FC0_0000, 0x7F80_0001,
+];
+
+/// An input whose rounded product with g−1 is exactly p, if there is one.
+pub fn with_product(g: u8, p: f32) -> Option<f32> {
+    let scale = f32::from(g - 1);
+    let near = (p / scale).to_bits();
+    (near.saturating_sub(3)..=near + 3).map(f32::from_bits).find(|&x| x <= 1.0 && x * scale == p)
+}
+
+/// The inputs whose product is just under a power of two: there p+1 skips a node for inks 5 and up.
+pub fn skipping(g: u8) -> Vec<f32> {
+    (0..8).map(|k| before((1u32 << k) as f32)).filter(|&p| g > 1 && p < f32::from(g - 1)).filter_map(|p| with_product(g, p)).collect()
+}
+
+/// The special values, and for g: products just under powers of two, the grid lines and their neighbours.
+pub fn special_inputs(g: u8) -> Vec<f32> {
+    let mut list: Vec<f32> = SPECIAL.iter().map(|&b| f32::from_bits(b)).collect();
+    list.extend(skipping(g));
+    for line in 1..g as usize {
+        if line < 4 || line + 2 > g as usize || line % 16 == 0 {
+            let x = line as f32 / f32::from(g - 1);
+            list.extend([before(x), x, after(x)]);
+        }
+    }
+    list.sort_by_key(|x| x.to_bits());
+    list.dedup_by_key(|x| x.to_bits());
+    list
+}
+
+/// A random input of a random sort.
+pub fn random_input(rng: &mut Rng, g: u8) -> f32 {
+    let scale = f32::from(g.max(2) - 1);
+    askable(match rng.below(12) {
+        0 => f32::from_bits(rng.pick(&SPECIAL)),
+        1 => rng.bits(),
+        2 => rng.below(256) as f32 / 255.0,
+        3 => rng.within(0, scale as usize) as f32 / scale,
+        4 => before(rng.within(1, scale as usize) as f32 / scale),
+        5 => after(rng.within(0, scale as usize) as f32 / scale),
+        6 => rng.pick(&[0.25, 0.5, 0.75, 0.125]),
+        7 if g > 1 => skipping(g).first().copied().unwrap_or(1.0),
+        8 if g > 1 => skipping(g).last().copied().unwrap_or(1.0),
+        _ => rng.unit(),
+    })
+}
+
+/// Inputs for n inks; often several alike, so that weights tie.
+pub fn random_inputs(rng: &mut Rng, g: u8, inputs: &mut [f32]) {
+    let alike = rng.one_in(4);
+    for i in 0..inputs.len() {
+        inputs[i] = if alike && i > 0 && rng.one_in(2) { inputs[rng.below(i)] } else { random_input(rng, g) };
+    }
+}
+
+/// A table of one of eight sorts.
+pub fn fill_table(rng: &mut Rng, table: &mut [f32]) {
+    let sort = rng.below(8);
+    for entry in table.iter_mut() {
+        *entry = match sort {
+            0 | 1 => rng.unit(),
+            2 => finite(rng),
+            3 => rng.bits(),
+            4 => f32::from_bits(rng.pick(&ENTRIES)),
+            5 => rng.below(16) as f32 - 4.0,
+            6 => if rng.one_in(2) { -0.0 } else { 0.0 },
+            _ => 0.0,
+        };
+    }
+    if sort == 7 {
+        let place = rng.below(table.len());
+        table[place] = 1.0;
+    }
+}
+
+/// Any finite float, by its bits.
+fn finite(rng: &mut Rng) -> f32 {
+    loop {
+        let x = rng.bits();
+        if x.is_finite() {
+            return x;
+        }
+    }
+}

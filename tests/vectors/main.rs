@@ -1,0 +1,34 @@
+//! Writes the vectors that the program `replay` is held to: FOLDER/stdin and FOLDER/stdout. The answers are the oracle's,
+//! the numbers document 01's. The same files come out on every machine.
+
+mod list;
+mod lookups;
+mod others;
+#[allow(dead_code)]
+#[path = "../differential/values.rs"]
+mod values;
+
+fn main() {
+    let folder = std::env::args().nth(1).expect("usage: vectors FOLDER");
+    let (list, rng) = (&mut list::List::default(), &mut values::Rng(20_240_229));
+    lookups::checked(list);
+    lookups::every_count(list, rng);
+    lookups::special_values(list, rng);
+    lookups::signed_zeros(list, rng);
+    lookups::skips(list, rng);
+    lookups::limits(list, rng);
+    lookups::damaged(list, rng);
+    lookups::nodes(list, rng);
+    others::layouts(list, rng);
+    others::weights(list, rng);
+    others::cubes(list, rng);
+    list.stdin.push_str("0\n");
+    std::fs::write(format!("{folder}/stdin"), &list.stdin).expect("stdin is written");
+    std::fs::write(format!("{folder}/stdout"), &list.stdout).expect("stdout is written");
+    let names = ["", "lookups", "layouts", "nodes", "weights", "sizes' weights", "pyramids", "prisms", "trilinears", "constant's entries"];
+    let told: Vec<String> = (1..10).map(|k| format!("{} {}", list.counts[k], names[k])).collect();
+    println!(
+        "vectors: {} cases ({}); stdin {} bytes, stdout {} bytes, {} table entries in all",
+        list.counts.iter().sum::<usize>(), told.join(", "), list.stdin.len(), list.stdout.len(), list.entries
+    );
+}
