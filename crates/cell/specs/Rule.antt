@@ -1,6 +1,6 @@
 -- Document 01, "Finding the cell": what a cell of one ink is. Definitions only.
 use Prim.Native.Nat.{ℕ, _+_, _-_, _≤_}
-use mathlib.Core.Bool.{cond}
+use mathlib.Core.Bool.{Bool, true, false, cond}
 use lib.Ieee.{Float, binary32, add, sub, mul, lt, toUnsigned}
 use Rattle.binary32.specs.Numbers.{plusZero, one, ofWhole}
 use Rattle.binary32.specs.Range.{Below}
@@ -52,6 +52,11 @@ cellLow x g = let p = productOf x g in cellAt p (upOf p)
 -- inks 5 and up
 unfoldable pub cellHigh : Float → ℕ → Cell
 cellHigh x g = let p = productOf x g in cellAt p (nextOf p g)
+
+-- a cell's lower node (false) or its upper one (true)
+abbrev pub node : Cell → Bool → ℕ
+node c false = c .x
+node c true = c .«x_n»
 
 -- what a caller may rely on: both nodes are among the lines 0 to n, in order, and the weight is from +0 up and below 1
 pub record OnGrid (n : ℕ) (c : Cell) : Type 0 where

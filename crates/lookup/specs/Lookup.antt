@@ -1,19 +1,15 @@
 -- What a lookup means, over a grid function: f takes a node's coordinates, LAST INK FIRST, to the entry stored there. The cells come last ink first too.
 -- Definitions only.
 use Prim.Native.Nat.{ℕ}
-use mathlib.Core.Bool.{Bool, true, false}
+use mathlib.Core.Bool.{true, false}
 use mathlib.Core.List.{List, [], _∷_}
 use lib.Ieee.{Float}
 use Rattle.binary32.specs.Blend.{lerp, along, square, tetra}
 use Rattle.cell.specs.declared.Cell.{Cell}
+pub use Rattle.cell.specs.Rule.{node}
 
 abbrev pub Grid : Type 0
 Grid = List ℕ → Float
-
--- a cell's lower node (false) or its upper one (true)
-abbrev pub node : Cell → Bool → ℕ
-node c false = c .x
-node c true = c .«x_n»
 
 -- the grid of the other inks, where the last ink stands on line k
 abbrev pub part : Grid → ℕ → Grid

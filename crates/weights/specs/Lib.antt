@@ -1,0 +1,2 @@
+-- The rule of the weights.
+pub mod Rule
