@@ -4,4 +4,3 @@ pub mod Facts
 pub mod Order
 pub mod Laws
 pub mod Unique
-pub mod Checked

@@ -17,7 +17,6 @@ use lib.Seq.{take-all, ext-getD}
 use borrow.Author.Tests.{leb-true, le-leb, lt-ltb, le-ltb}
 use Rattle.binary32.specs.Numbers.{plusZero, ofWhole}
 use Rattle.lists.specs.Lists.{tabulate, every, product}
-use Rattle.outcome.specs.Outcome.{Decides}
 use Rattle.layout.specs.Layout.{limit, isCount, place, places, stride}
 use Rattle.lists.proofs.Lists.{and-true, and-left, and-right, length-tabulate, tabulate-same, set-tabulate, getD-tabulate, product-take-suc, product-take-le}
 
@@ -127,18 +126,6 @@ from-less {P} n i above here k h l =
 -- a product of the first sizes, alone or times m, is within the limit where the total is
 pub product-fits : (used : List ℕ) (i k m : ℕ) → every (ltb 0) used ≡ true → k ≤ m → product used * m ≤ limit → product (take i used) * k ≤ limit
 product-fits used i k m h km t = le-trans (mul-le-mul (product-take-le used i h) km) t
-
--- ---- a Bool that is known and a claim that is decided
-
-pub refuses : {Claim : Type 0} → (Claim → ⊥) → Decides false Claim
-refuses fails = record { holds = λ e. absurd (let z : _≡_ {A = ℕ} 0 1 = cc in omega arith); found = λ claim. absurd (fails claim) }
-
-pub accepts : {Claim : Type 0} → Claim → Decides true Claim
-accepts claim = record { holds = λ e. claim; found = λ c. refl }
-
-pub not-both : (b : Bool) → not b ≡ true → b ≡ true → ⊥
-not-both true p q = let z : _≡_ {A = ℕ} 0 1 = cc in omega arith
-not-both false p q = let z : _≡_ {A = ℕ} 0 1 = cc in omega arith
 
 -- ---- no scale is a NaN
 

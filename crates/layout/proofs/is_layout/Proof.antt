@@ -9,7 +9,8 @@ use lib.ListN.{length}
 use borrow.Author.Needs.{needs}
 use borrow.Author.Tests.{not-false}
 use Rattle.layout.specs.Layout.{isCount}
-use Rattle.layout.proofs.Parts.{count-to, refuses, not-both}
+use Rattle.outcome.proofs.Decided.{refuses, not-both}
+use Rattle.layout.proofs.Parts.{count-to}
 use Rattle.layout.proofs.Accepted.{accepted-equal}
 use Rattle.layout.proofs.Facts.{facts-of, layout-of, used-at, unused-at, facts-are}
 use Rattle.layout.proofs.Laws.{size-from}

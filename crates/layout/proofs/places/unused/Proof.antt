@@ -7,7 +7,8 @@ use borrow.Author.Needs.{needs}
 use borrow.Author.Count.{below-more}
 use borrow.Author.Tests.{not-false}
 use Rattle.layout.specs.Places.{UnusedAt}
-use Rattle.layout.proofs.Parts.{refuses, accepts, not-both, zero-is-number}
+use Rattle.outcome.proofs.Decided.{refuses, accepts, not-both}
+use Rattle.layout.proofs.Parts.{zero-is-number}
 use Rattle.layout.proofs.places.unused.Statement.{statement}
 use Rattle.layout.proofs.places.unused.Tie as tie
 

@@ -12,7 +12,8 @@ use borrow.Author.Needs.{needs}
 use borrow.Author.Tests.{not-false, leb-true, le-leb}
 use Rattle.layout.specs.Layout.{limit, total, stride}
 use Rattle.layout.specs.Places.{UsedAt}
-use Rattle.layout.proofs.Parts.{running, running-none, running-all, running-stride, running-next, from-less, refuses, not-both, scale-is-number}
+use Rattle.outcome.proofs.Decided.{refuses, not-both}
+use Rattle.layout.proofs.Parts.{running, running-none, running-all, running-stride, running-next, from-less, scale-is-number}
 use Rattle.layout.proofs.places.used.Statement.{statement}
 use Rattle.layout.proofs.places.used.Tie as tie
 
