@@ -66,8 +66,7 @@ module _ (lut : MultidimensionalLut) (table : List Float) (coordinates : List �
         let same : shown ≡ nodeEntries r lut table coordinates =
         holds .entries
         ∙ ap (λ (b : Bool). nodeEntries (nodeRefusal b lut (length table) coordinates) lut table coordinates) (decided (holds .laid) (refused .laid) (holds .decides) (refused .decides))
-        ∙ ap (λ (k : ℕ). nodeEntries k lut table coordinates) (sym (refused .number)) in
-        (
+        ∙ ap (λ (k : ℕ). nodeEntries k lut table coordinates) (sym (refused .number)) in (
           (λ none z. let m = outputs-from lut (node-passed lut table coordinates r refused z .is) in omega (arith, ap length same, long z)),
           (λ some. ap length same ∙ ap length (nothing r some)),
         )

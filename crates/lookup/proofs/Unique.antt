@@ -34,19 +34,19 @@ lookup-unique κs a x y ws vs p q =
 
 pub node-refusal-unique : OneOutcome 2 node-refusal-kinds.ps node-refusal-kinds.r node-refusal-reads.Post
 node-refusal-unique κs a x y ws vs p q = (
-      p .number
+  p .number
       ∙ ap (λ (b : Bool). nodeRefusal b (a .0) (length (a .1 .0 .now)) (a .1 .1 .0 .now)) (decided (p .laid) (q .laid) (p .decides) (q .decides))
       ∙ sym (q .number),
-      refl,
-    )
+  refl,
+)
 
 pub node-unique : OneOutcomeSeen 2 node-kinds.ps node-kinds.r (λ κs. List Float) (λ κs z. z .now) node-reads.Post
 node-unique κs a x y ws vs p q = (
-      p .entries
+  p .entries
       ∙ ap (λ (b : Bool). nodeEntries (nodeRefusal b (a .0) (length (a .1 .0 .now)) (a .1 .1 .0 .now)) (a .0) (a .1 .0 .now) (a .1 .1 .0 .now)) (decided (p .laid) (q .laid) (p .decides) (q .decides))
       ∙ sym (q .entries),
-      refl,
-    )
+  refl,
+)
 
 -- no `requires`
 pub lookup-asks-nothing : (κs : _) (a : _) → lookup-reads.Pre κs a

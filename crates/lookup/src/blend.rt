@@ -1,7 +1,6 @@
 // The answers of four and more inks, all m outputs at a time.
 use crate::few;
 use crate::plan;
-
 ghost use mathlib.Core.Path.{_≡_};
 ghost use Prim.Native.Nat.{_+_, _-_, _*_, _≤_, _<_};
 ghost use lib.Ieee.{nan};
@@ -104,7 +103,7 @@ pub(crate) fn answers(
     ensures { λ _. ⌜ now (out .exit) ≡ written (answer (now (table .entry)) (cellsAt (now (low .entry)) (now (high .entry)) (now (w .entry)) n)) m (now (out .entry)) ⌝ }
 {
     if n == 1 {
-        few::one(table, low, high, w, m, out);
+        few::one(table, low[0], high[0], w[0], m, out);
         return;
     }
     if n == 2 {

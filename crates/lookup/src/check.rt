@@ -1,6 +1,5 @@
 // The refusals that lookups and the node reader share.
 use layout::MultidimensionalLut;
-
 ghost use Rattle.lookup.specs.Places.{Checked};
 
 // 9 not a layout's record, 6 a table shorter than its total, 7 not as many inputs or coordinates as

@@ -1,7 +1,8 @@
 // The answers of one, two and three inks, all m outputs of each.
 ghost use mathlib.Core.Path.{_≡_};
 ghost use Prim.Native.Nat.{_+_, _≤_};
-ghost use lib.ListN.{length};
+ghost use lib.Ieee.{nan};
+ghost use lib.ListN.{length, getD};
 ghost use Rattle.binary32.specs.Blend.{along};
 ghost use Rattle.lists.specs.Buffer.{written};
 ghost use Rattle.lookup.specs.Places.{cellsAt, reach, answer, planned, Inside};
@@ -13,25 +14,15 @@ fn mix(a: f32, b: f32, w: f32) -> f32
     a * (1.0 - w) + b * w
 }
 
-// One ink.
-pub(crate) fn one(
-    part: &[f32],
-    low: &[usize; 15],
-    high: &[usize; 15],
-    w: &[f32; 15],
-    m: usize,
-    out: &mut [f32],
-)
-    requires { ⌜ reach (cellsAt (now low) (now high) (now w) 1) + m ≤ length (now part) ⌝ }
+// One ink, whose nodes stand x and x_n entries from the part's start.
+pub(crate) fn one(part: &[f32], x: usize, x_n: usize, w: f32, m: usize, out: &mut [f32])
+    requires { ⌜ (x + m ≤ length (now part)) × («x_n» + m ≤ length (now part)) ⌝ }
     requires room { ⌜ m ≤ length (now out) ⌝ }
-    ensures { λ _. ⌜ now (out .exit) ≡ written (answer (now (part .entry)) (cellsAt (now (low .entry)) (now (high .entry)) (now (w .entry)) 1)) m (now (out .entry)) ⌝ }
+    ensures { λ _. ⌜ now (out .exit) ≡ written (λ o. along (getD (now (part .entry)) (x + o) nan) (getD (now (part .entry)) («x_n» + o) nan) w) m (now (out .entry)) ⌝ }
 {
-    let x = low[0];
-    let x_n = high[0];
-    let t = w[0];
     let mut o = 0;
     while o < m {
-        out[o] = mix(part[x + o], part[x_n + o], t);
+        out[o] = mix(part[x + o], part[x_n + o], w);
         o += 1;
     }
 }

@@ -7,7 +7,6 @@ mod place;
 mod plan;
 
 use layout::MultidimensionalLut;
-
 ghost use mathlib.Core.Path.{_≡_};
 ghost use Prim.Native.Nat.{_≤_};
 ghost use lib.ListN.{length};
@@ -34,12 +33,7 @@ fn write(lut: MultidimensionalLut, table: &[f32], inputs: &[f32], answer: &mut [
 }
 
 // The lookup: its number, and on 0 the m answers in the first entries of `answer`.
-pub fn lookup(
-    lut: MultidimensionalLut,
-    table: &[f32],
-    inputs: &[f32],
-    answer: &mut [f32],
-) -> u32
+pub fn lookup(lut: MultidimensionalLut, table: &[f32], inputs: &[f32], answer: &mut [f32]) -> u32
     ensures { λ r. ⌜ Looked lut (now (table .entry)) (now (inputs .entry)) (now (answer .entry)) r (now (answer .exit)) ⌝ }
 {
     let refusal = check::refused(lut, table.len(), inputs.len());

@@ -2,7 +2,6 @@
 use layout::EntryOffset;
 use layout::MultidimensionalLut;
 use layout::NodeNumber;
-
 ghost use mathlib.Core.Path.{_≡_};
 ghost use mathlib.Core.Bool.{true};
 ghost use mathlib.Core.List.{reverse};

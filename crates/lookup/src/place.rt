@@ -1,7 +1,6 @@
 // The cells of all inks, with the distance in entries for each node.
 use cell::Cell;
 use layout::MultidimensionalLut;
-
 ghost use mathlib.Core.Path.{_≡_};
 ghost use lib.ListN.{length};
 ghost use Rattle.layout.specs.Layout.{IsLayout, inkSizes};

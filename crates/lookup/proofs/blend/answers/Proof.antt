@@ -8,7 +8,7 @@ use lib.ListN.{length}
 use Rattle.lists.specs.Buffer.{written}
 use Rattle.lists.proofs.Buffer.{written-same}
 use Rattle.lookup.specs.Places.{cellsAt, reach, answer}
-use Rattle.lookup.proofs.Inks.{reach-three}
+use Rattle.lookup.proofs.Inks.{reach-three, one-ink}
 use Rattle.lookup.proofs.Halves.{three-inside}
 use Rattle.lookup.proofs.Turns.{same-room}
 use Rattle.lookup.proofs.blend.answers.Statement.{statement}
@@ -26,9 +26,16 @@ pub answers-spec : {M : Type 1} → statement M
 answers-spec =
     tie.close
     (tie.spec
-    (λ c κs. let s = c .before .before .before .before in (reach-is (s .args .low .now) (s .args .high .now) (s .args .w .now) (s .args .table .now) (s .args .n) (s .args .m) 1 (c .before .if1 .taken) (s .pre .1 .0), s .pre .1 .1 .1))
+    (λ c. omega arith)
+    (λ c. omega arith)
+    (λ c. omega arith)
+    (λ c κs. let s = c .before .before .before .before .before .before .before in
+    let one = reach-is (s .args .low .now) (s .args .high .now) (s .args .w .now) (s .args .table .now) (s .args .n) (s .args .m) 1 (c .before .before .before .before .if1 .taken) (s .pre .1 .0) in
+    ((omega arith, omega arith), s .pre .1 .1 .1))
     (λ c. same-room _ _ _ _ (c .before .before .one .ensures))
-    (λ c. let s = c .before .before .before .before .before .before .before in written-is-so (s .args .low .now) (s .args .high .now) (s .args .w .now) (s .args .table .now) (s .args .n) (s .args .m) 1 (c .before .before .before .before .if1 .taken) (s .args .out .now) _ (c .before .before .one .ensures))
+    (λ c. let s = c .before .before .before .before .before .before .before .before .before .before in
+    written-is-so (s .args .low .now) (s .args .high .now) (s .args .w .now) (s .args .table .now) (s .args .n) (s .args .m) 1 (c .before .before .before .before .before .before .before .if1 .taken) (s .args .out .now) _
+    (c .before .before .one .ensures ∙ written-same _ _ _ _ (λ o l. one-ink (s .args .low .now) (s .args .high .now) (s .args .w .now) (s .args .table .now) o)))
     (λ c κs. let s = c .before .before .before .before .before in (reach-is (s .args .low .now) (s .args .high .now) (s .args .w .now) (s .args .table .now) (s .args .n) (s .args .m) 2 (c .before .if2 .taken) (s .pre .1 .0), s .pre .1 .1 .1))
     (λ c. same-room _ _ _ _ (c .before .before .two .ensures))
     (λ c. let s = c .before .before .before .before .before .before .before .before in written-is-so (s .args .low .now) (s .args .high .now) (s .args .w .now) (s .args .table .now) (s .args .n) (s .args .m) 2 (c .before .before .before .before .if2 .taken) (s .args .out .now) _ (c .before .before .two .ensures))

@@ -1,18 +1,18 @@
 -- `lookup::few::one` meets its contract: each turn sets one answer. Assumes nothing.
-use Prim.Native.Nat.{ℕ, _-_}
+use Prim.Native.Nat.{ℕ, _+_, _-_}
 use native.Mathlib.Omega.{arith}
-use mathlib.Core.Path.{_∙_}
-use Rattle.lookup.specs.Places.{cellsAt, answer}
-use Rattle.lookup.proofs.Inks.{one-ink}
+use lib.Ieee.{nan}
+use lib.ListN.{getD}
+use Rattle.binary32.specs.Blend.{along}
 use Rattle.lookup.proofs.Turns.{Turned, turned-none, turned-more, turned-all}
 use Rattle.lookup.proofs.few.one.Statement.{statement}
 use Rattle.lookup.proofs.few.one.Tie as tie
 
 abbrev Inv-loop : tie.InvT-loop
-Inv-loop part low high w m out₀ x x-n t o₀ out o = Turned (answer part (cellsAt low high w 1)) m out₀ out o
+Inv-loop part x x-n w m out₀ o₀ out o = Turned (λ k. along (getD part (x + k) nan) (getD part (x-n + k) nan) w) m out₀ out o
 
 abbrev μ-loop : tie.MeasureT-loop
-μ-loop part low high w m out₀ x x-n t o₀ out o = m - o
+μ-loop part x x-n w m out₀ o₀ out o = m - o
 
 pub one-spec : {M : Type 1} → statement M
 one-spec =
@@ -20,9 +20,6 @@ one-spec =
     (tie.spec
     Inv-loop
     μ-loop
-    (λ c. omega arith)
-    (λ c. omega arith)
-    (λ c. omega arith)
     (λ c. turned-none _ _ _)
     (λ c. omega arith)
     (λ c. omega arith)
@@ -35,8 +32,6 @@ one-spec =
     (λ c. omega arith)
     (λ c. omega arith)
     (λ c. omega arith)
-    (λ c. let l = c .before .before .before .before .loop in
-    let s = c .before .before .before .before .before .before .before .before .before .before in
-    turned-more _ _ _ _ _ (l .inv) (c .before .before .before .loop-test .taken) _ (c .mix .ensures ∙ one-ink (s .args .low .now) (s .args .high .now) (s .args .w .now) (s .args .part .now) (l .o)))
+    (λ c. turned-more _ _ _ _ _ (c .before .before .before .before .loop .inv) (c .before .before .before .loop-test .taken) _ (c .mix .ensures))
     (λ c. c .before .loop .inv .room)
     (λ c. turned-all _ _ _ _ _ (c .before .loop .inv) (c .loop-test .left)))

@@ -54,7 +54,8 @@ place-spec =
     let l = c .before .before .before .before .before .loop in
     (omega arith, turn _ _ _ _ _ _ (l .i) (c .before .before .ink-cell .result) (omega (arith, inks-to (s .args .lut) (s .pre .0))) (c .before .before .ink-cell .ensures) (l .inv .1)))
     (λ c. let s = c .before .before .before .before in
-    let l = c .before .loop in
-    (places-of (s .args .lut .«grid_filling_size») (s .args .inputs .now) (l .low) (l .high) (l .w) (s .args .lut .«grid_size») (s .args .lut .«input_inks») (s .args .lut .«output_inks»)
-    (filling-steps (s .args .lut) (s .pre .0)) (λ j below. l .inv .1 .standing j (omega arith)),
-    λ j below. weighed (s .args .lut .«grid_filling_size») (s .args .inputs .now) (l .low) (l .high) (l .w) (s .args .lut .«grid_size») j (l .inv .1 .standing j (omega arith)) (search needs))))
+    let l = c .before .loop in (
+      places-of (s .args .lut .«grid_filling_size») (s .args .inputs .now) (l .low) (l .high) (l .w) (s .args .lut .«grid_size») (s .args .lut .«input_inks») (s .args .lut .«output_inks»)
+          (filling-steps (s .args .lut) (s .pre .0)) (λ j below. l .inv .1 .standing j (omega arith)),
+      λ j below. weighed (s .args .lut .«grid_filling_size») (s .args .inputs .now) (l .low) (l .high) (l .w) (s .args .lut .«grid_size») j (l .inv .1 .standing j (omega arith)) (search needs),
+    )))
