@@ -3,13 +3,15 @@
 use Prim.Native.Nat.{ℕ, zero, suc, _+_, _≤_, _<_}
 use mathlib.Core.Path.{_≡_, refl, sym, _∙_}
 use mathlib.Core.List.{List}
-use native.Mathlib.Nat.{not-suc-le-zero}
+use native.Mathlib.Nat.{not-suc-le-zero, le-of-eq}
 use native.Mathlib.Numerals.{add-one}
 use native.Mathlib.Decide.{decLt}
 use native.Mathlib.Omega.{arith}
 use lib.ListN.{length, getD, set, length-set}
 use lib.Seq.{getD-set-same, getD-set-other, ext-getD}
+use Rattle.lists.specs.Lists.{tabulate}
 use Rattle.lists.specs.Buffer.{written, left}
+use Rattle.lists.proofs.Lists.{length-tabulate, getD-tabulate}
 
 module _ {A : Type 0} (f : ℕ → A) where
   pub length-written : (m : ℕ) (old : List A) → length (written f m old) ≡ length old
@@ -51,6 +53,13 @@ module _ {A : Type 0} (f : ℕ → A) where
         | yes low ↦ set-to k low ∙ sym (written-at m old k d low l)
         | no high ↦ kept k (omega arith) ∙ sym (written-past m old k d (omega arith))
       ])
+
+  -- a list that is written at all of its places is the list of the rule
+  pub written-whole : (m : ℕ) (old : List A) (d : A) → length old ≡ m → written f m old ≡ tabulate m f
+  written-whole m old d e =
+      ext-getD d (written f m old) (tabulate m f) (length-written m old ∙ e ∙ sym (length-tabulate m f)) (λ k h.
+      let low : k < m = omega (arith, length-written m old) in
+      written-at m old k d low (le-of-eq (sym e)) ∙ sym (getD-tabulate m f k d low))
 
 -- it depends on the rule below m alone
 pub written-same : {A : Type 0} (f g : ℕ → A) (m : ℕ) (old : List A) → ((k : ℕ) → k < m → f k ≡ g k) → written f m old ≡ written g m old

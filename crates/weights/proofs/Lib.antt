@@ -1,5 +1,4 @@
--- Lists that are filled (Filled), the 33-point table (Table, Constants), one outcome each (Unique).
-pub mod Filled
+-- The 33-point table (Table, Constants), and one outcome each (Unique).
 pub mod Table
 pub mod Constants
 pub mod Unique

@@ -10,10 +10,9 @@ use lib.Ieee.{Float}
 use lib.ListN.{length, set, replicate}
 use Rattle.cell.specs.declared.Cell.{Cell}
 use Rattle.lists.specs.Buffer.{written}
-use Rattle.lists.proofs.Buffer.{written-next}
+use Rattle.lists.proofs.Buffer.{written-next, written-whole}
 use Rattle.weights.specs.declared.Ranged.{Ranged}
 use Rattle.weights.specs.Rule.{zeroCell, scaleOf, cellOf, weightCell, ranged}
-use Rattle.weights.proofs.Filled.{written-whole}
 use Rattle.weights.proofs.create_ranged_256.Statement.{statement}
 use Rattle.weights.proofs.create_ranged_256.Tie as tie
 
