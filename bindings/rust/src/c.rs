@@ -1,0 +1,73 @@
+//! The declarations of include/tenahvar.h.
+
+pub type CubeMethod = unsafe extern "C" fn(
+    x: &[usize; 3],
+    x_n: &[usize; 3],
+    w: &[f32; 3],
+    g: u8,
+    m: usize,
+    cube: *const f32,
+    cube_length: usize,
+    answer: *mut f32,
+    answer_length: usize,
+) -> u32;
+
+extern "C" {
+    pub fn tenahvar_layout(
+        sizes: &[u8; 16],
+        n: usize,
+        m: usize,
+        grid_strides: &mut [u32; 16],
+        grid_filling_size: &mut [u32; 16],
+        grid_scale: &mut [f32; 16],
+    ) -> u32;
+
+    pub fn tenahvar_lookup(
+        sizes: &[u8; 16],
+        n: usize,
+        m: usize,
+        table: *const f32,
+        table_length: usize,
+        inputs: *const f32,
+        inputs_length: usize,
+        answer: *mut f32,
+        answer_length: usize,
+    ) -> u32;
+
+    pub fn tenahvar_node(
+        sizes: &[u8; 16],
+        n: usize,
+        m: usize,
+        table: *const f32,
+        table_length: usize,
+        coordinates: *const usize,
+        coordinates_length: usize,
+        offset: &mut usize,
+    ) -> u32;
+
+    pub fn tenahvar_create_ranged_256(
+        g: u8,
+        x: &mut [usize; 256],
+        x_n: &mut [usize; 256],
+        w: &mut [f32; 256],
+    ) -> u32;
+}
+
+macro_rules! cube_methods {
+    ($($name:ident)*) => {
+        extern "C" {
+            $(pub fn $name(
+                x: &[usize; 3],
+                x_n: &[usize; 3],
+                w: &[f32; 3],
+                g: u8,
+                m: usize,
+                cube: *const f32,
+                cube_length: usize,
+                answer: *mut f32,
+                answer_length: usize,
+            ) -> u32;)*
+        }
+    };
+}
+cube_methods!(tenahvar_pyramidal tenahvar_prismatic tenahvar_trilinear);

@@ -1,0 +1,269 @@
+//! Colour lookup of 1 to 15 inks in a grid of `f32` entries: safe calls of the proved library.
+//!
+//! Every call checks its arguments itself and answers a [`Refusal`] where one applies; a refused call has written nothing.
+//! There is no state and no allocation. That a buffer overlaps nothing else is what `&mut` says.
+#![no_std]
+#![warn(missing_docs)]
+
+use core::fmt;
+
+mod c;
+#[cfg(test)]
+mod tests;
+
+/// Why a call was refused. The numbers are the library's.
+#[derive(Clone, Copy, Debug, PartialEq, Eq, Hash)]
+#[repr(u32)]
+pub enum Refusal {
+    /// The number of input inks is outside 1..=15.
+    InputInks = 1,
+    /// The number of output inks is outside 1..=15, or for a cube method neither 3 nor 4.
+    OutputInks = 2,
+    /// A size in use is 0.
+    ZeroSize = 3,
+    /// The sizes in use are not equal.
+    UnequalSizes = 4,
+    /// The table would have more than 4,294,967,295 entries.
+    LargeTotal = 5,
+    /// The table is shorter than the layout asks.
+    ShortTable = 6,
+    /// The number of inputs, or of node coordinates, is not that of the input inks.
+    InputCount = 7,
+    /// The answer buffer is shorter than the number of output inks.
+    ShortAnswer = 8,
+    /// A layout record is not one that an accepted layout gives. No function here takes a record.
+    ForeignRecord = 9,
+    /// A node, of a cell or of the coordinates, is outside the grid.
+    OutsideGrid = 10,
+}
+
+impl Refusal {
+    const ALL: [Refusal; 10] = [
+        Refusal::InputInks,
+        Refusal::OutputInks,
+        Refusal::ZeroSize,
+        Refusal::UnequalSizes,
+        Refusal::LargeTotal,
+        Refusal::ShortTable,
+        Refusal::InputCount,
+        Refusal::ShortAnswer,
+        Refusal::ForeignRecord,
+        Refusal::OutsideGrid,
+    ];
+
+    /// The library's number for it, 1 to 10.
+    pub fn number(self) -> u32 {
+        self as u32
+    }
+}
+
+impl fmt::Display for Refusal {
+    fn fmt(&self, f: &mut fmt::Formatter<'_>) -> fmt::Result {
+        f.write_str(match self {
+            Refusal::InputInks => "the number of input inks is outside 1..15",
+            Refusal::OutputInks => "the number of output inks is not one that is accepted",
+            Refusal::ZeroSize => "a grid size in use is 0",
+            Refusal::UnequalSizes => "the grid sizes in use are not equal",
+            Refusal::LargeTotal => "the table would have more than 4,294,967,295 entries",
+            Refusal::ShortTable => "the table is shorter than the layout asks",
+            Refusal::InputCount => {
+                "the number of inputs or coordinates is not that of the input inks"
+            }
+            Refusal::ShortAnswer => "the answer buffer is shorter than the number of output inks",
+            Refusal::ForeignRecord => "the record is not one that an accepted layout gives",
+            Refusal::OutsideGrid => "a node is outside the grid",
+        })
+    }
+}
+
+impl core::error::Error for Refusal {}
+
+/// 0 is done; any other number is a refusal, of which the library has ten.
+fn told(number: u32) -> Result<(), Refusal> {
+    match number {
+        0 => Ok(()),
+        k => Err(Refusal::ALL[k as usize - 1]),
+    }
+}
+
+/// What is asked of a layout: only the first `n` sizes count, and they are one value.
+#[derive(Clone, Copy, Debug, PartialEq, Eq)]
+pub struct Grid {
+    /// Grid sizes.
+    pub sizes: [u8; 16],
+    /// Input inks.
+    pub n: usize,
+    /// Output inks.
+    pub m: usize,
+}
+
+impl Grid {
+    /// `n` inks of the size `g`, and `m` output inks.
+    pub fn new(g: u8, n: usize, m: usize) -> Grid {
+        Grid {
+            sizes: [g; 16],
+            n,
+            m,
+        }
+    }
+}
+
+/// The rows of a layout record, a place for each ink. Unused places hold 1, 1 and 0.0.
+#[derive(Clone, Copy, Debug, PartialEq)]
+pub struct Layout {
+    /// Nodes from one line of the ink to its next.
+    pub grid_strides: [u32; 16],
+    /// Table entries from one line of the ink to its next.
+    pub grid_filling_size: [u32; 16],
+    /// The size less 1.
+    pub grid_scale: [f32; 16],
+}
+
+/// A cell on one axis: lower node, upper node and weight.
+#[derive(Clone, Copy, Debug, Default, PartialEq)]
+pub struct Cell {
+    /// Lower node.
+    pub x: usize,
+    /// Upper node.
+    pub x_n: usize,
+    /// Weight of the upper node.
+    pub w: f32,
+}
+
+/// The layout's rows. Refusals 1 to 5.
+pub fn layout(grid: &Grid) -> Result<Layout, Refusal> {
+    let mut rows = Layout {
+        grid_strides: [0; 16],
+        grid_filling_size: [0; 16],
+        grid_scale: [0.0; 16],
+    };
+    // SAFETY: the arrays have the lengths that are asked, and each `&mut` overlaps nothing.
+    let number = unsafe {
+        c::tenahvar_layout(
+            &grid.sizes,
+            grid.n,
+            grid.m,
+            &mut rows.grid_strides,
+            &mut rows.grid_filling_size,
+            &mut rows.grid_scale,
+        )
+    };
+    told(number).map(|()| rows)
+}
+
+/// Sets the first `m` entries of `answer` to the colour at `inputs`, and no others. Refusals 1 to 8.
+pub fn lookup(
+    grid: &Grid,
+    table: &[f32],
+    inputs: &[f32],
+    answer: &mut [f32],
+) -> Result<(), Refusal> {
+    // SAFETY: each pointer goes with its slice's length, and the `&mut` overlaps nothing.
+    told(unsafe {
+        c::tenahvar_lookup(
+            &grid.sizes,
+            grid.n,
+            grid.m,
+            table.as_ptr(),
+            table.len(),
+            inputs.as_ptr(),
+            inputs.len(),
+            answer.as_mut_ptr(),
+            answer.len(),
+        )
+    })
+}
+
+/// The `m` entries of a node, as a part of the table. Coordinates come first ink first. Refusals 1 to 7 and 10.
+pub fn node<'a>(
+    grid: &Grid,
+    table: &'a [f32],
+    coordinates: &[usize],
+) -> Result<&'a [f32], Refusal> {
+    let mut offset = 0;
+    // SAFETY: each pointer goes with its slice's length, and `offset` is a local.
+    let number = unsafe {
+        c::tenahvar_node(
+            &grid.sizes,
+            grid.n,
+            grid.m,
+            table.as_ptr(),
+            table.len(),
+            coordinates.as_ptr(),
+            coordinates.len(),
+            &mut offset,
+        )
+    };
+    told(number).map(|()| &table[offset..offset + grid.m])
+}
+
+/// The cell of each 8-bit ink code on an axis of `g` lines. Refusal 3.
+pub fn create_ranged_256(g: u8) -> Result<[Cell; 256], Refusal> {
+    let (mut x, mut x_n, mut w) = ([0; 256], [0; 256], [0.0; 256]);
+    // SAFETY: the arrays have the lengths that are asked, and are locals.
+    told(unsafe { c::tenahvar_create_ranged_256(g, &mut x, &mut x_n, &mut w) })?;
+    Ok(core::array::from_fn(|i| Cell {
+        x: x[i],
+        x_n: x_n[i],
+        w: w[i],
+    }))
+}
+
+/// A colour in a cube of `g` lines on each axis with `m` entries at each node, by the pyramid method: it sets the first `m` entries of
+/// `answer` and no others. Refusals 2, 3, 6, 8 and 10.
+pub fn pyramidal(
+    cells: &[Cell; 3],
+    g: u8,
+    m: usize,
+    cube: &[f32],
+    answer: &mut [f32],
+) -> Result<(), Refusal> {
+    in_cube(c::tenahvar_pyramidal, cells, g, m, cube, answer)
+}
+
+/// The same by the prism method.
+pub fn prismatic(
+    cells: &[Cell; 3],
+    g: u8,
+    m: usize,
+    cube: &[f32],
+    answer: &mut [f32],
+) -> Result<(), Refusal> {
+    in_cube(c::tenahvar_prismatic, cells, g, m, cube, answer)
+}
+
+/// The same by the trilinear method.
+pub fn trilinear(
+    cells: &[Cell; 3],
+    g: u8,
+    m: usize,
+    cube: &[f32],
+    answer: &mut [f32],
+) -> Result<(), Refusal> {
+    in_cube(c::tenahvar_trilinear, cells, g, m, cube, answer)
+}
+
+fn in_cube(
+    method: c::CubeMethod,
+    cells: &[Cell; 3],
+    g: u8,
+    m: usize,
+    cube: &[f32],
+    answer: &mut [f32],
+) -> Result<(), Refusal> {
+    let (x, x_n, w) = (cells.map(|c| c.x), cells.map(|c| c.x_n), cells.map(|c| c.w));
+    // SAFETY: each pointer goes with its slice's length, and the `&mut` overlaps nothing.
+    told(unsafe {
+        method(
+            &x,
+            &x_n,
+            &w,
+            g,
+            m,
+            cube.as_ptr(),
+            cube.len(),
+            answer.as_mut_ptr(),
+            answer.len(),
+        )
+    })
+}

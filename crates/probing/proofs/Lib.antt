@@ -1,0 +1,4 @@
+pub mod Stores
+pub mod Digits
+pub mod Shown
+pub mod Unique

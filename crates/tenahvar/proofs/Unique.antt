@@ -1,0 +1,87 @@
+-- Each exported function asks nothing of its caller, and its statement leaves one outcome.
+-- Assumes nothing.
+use Prim.Native.Nat.{ℕ}
+use mathlib.Core.Path.{_≡_, sym, ap, _∙_}
+use mathlib.Core.List.{List}
+use lib.Ieee.{Float}
+use Rattle.outcome.specs.Outcome.{OneOutcome}
+use Rattle.lists.specs.Buffer.{left}
+use Rattle.cell.specs.declared.Cell.{Cell}
+use Rattle.cubes.specs.Blends.{Blend}
+use Rattle.cubes.specs.Cube.{answerAt, Blended}
+use Rattle.tenahvar.proofs.tenahvar_layout.Kinds as layout-kinds
+use Rattle.tenahvar.proofs.tenahvar_layout.Reads as layout-reads
+use Rattle.tenahvar.proofs.tenahvar_lookup.Kinds as lookup-kinds
+use Rattle.tenahvar.proofs.tenahvar_lookup.Reads as lookup-reads
+use Rattle.tenahvar.proofs.tenahvar_node.Kinds as node-kinds
+use Rattle.tenahvar.proofs.tenahvar_node.Reads as node-reads
+use Rattle.tenahvar.proofs.tenahvar_create_ranged_256.Kinds as create-ranged-256-kinds
+use Rattle.tenahvar.proofs.tenahvar_create_ranged_256.Reads as create-ranged-256-reads
+use Rattle.tenahvar.proofs.tenahvar_pyramidal.Kinds as pyramidal-kinds
+use Rattle.tenahvar.proofs.tenahvar_pyramidal.Reads as pyramidal-reads
+use Rattle.tenahvar.proofs.tenahvar_prismatic.Kinds as prismatic-kinds
+use Rattle.tenahvar.proofs.tenahvar_prismatic.Reads as prismatic-reads
+use Rattle.tenahvar.proofs.tenahvar_trilinear.Kinds as trilinear-kinds
+use Rattle.tenahvar.proofs.tenahvar_trilinear.Reads as trilinear-reads
+
+pub tenahvar-layout-unique : OneOutcome 4 layout-kinds.ps layout-kinds.r layout-reads.Post
+tenahvar-layout-unique κs a x y ws vs p q =
+    let strides = p .strides ∙ sym (q .strides) in
+    let filling = p .filling ∙ sym (q .filling) in
+    let scale = p .scale ∙ sym (q .scale) in
+    (p .number ∙ sym (q .number), λ i. (tt, (tt, (tt, (strides i, (filling i, (scale i, tt)))))))
+
+pub tenahvar-lookup-unique : OneOutcome 4 lookup-kinds.ps lookup-kinds.r lookup-reads.Post
+tenahvar-lookup-unique κs a x y ws vs p q =
+    let entries = p .entries ∙ sym (q .entries) in
+    (p .number ∙ sym (q .number), λ i. (tt, (tt, (tt, (tt, (tt, (entries i, tt)))))))
+
+pub tenahvar-node-unique : OneOutcome 4 node-kinds.ps node-kinds.r node-reads.Post
+tenahvar-node-unique κs a x y ws vs p q =
+    let offset = p .offset ∙ sym (q .offset) in
+    (p .number ∙ sym (q .number), λ i. (tt, (tt, (tt, (tt, (tt, (offset i, tt)))))))
+
+pub tenahvar-create-ranged-256-unique : OneOutcome 3 create-ranged-256-kinds.ps create-ranged-256-kinds.r create-ranged-256-reads.Post
+tenahvar-create-ranged-256-unique κs a x y ws vs p q =
+    let lower = p .lower ∙ sym (q .lower) in
+    let upper = p .upper ∙ sym (q .upper) in
+    let weight = p .weight ∙ sym (q .weight) in
+    (p .number ∙ sym (q .number), λ i. (tt, (lower i, (upper i, (weight i, tt)))))
+
+-- a cube method's statement leaves one buffer
+one-buffer : {blend : Blend} {cx cy cz : Cell} {g m : ℕ} {cube old : List Float} {x y : ℕ} {v w : List Float}
+    → Blended blend cx cy cz g m cube old x v → Blended blend cx cy cz g m cube old y w → (x ≡ y) × (v ≡ w)
+one-buffer {blend} {cx} {cy} {cz} {g} {m} {cube} {old} p q =
+    let number = p .number ∙ sym (q .number) in
+    (number, p .entries ∙ ap (λ (r : ℕ). left r (answerAt blend cx cy cz g m cube) m old) number ∙ sym (q .entries))
+
+pub tenahvar-pyramidal-unique : OneOutcome 5 pyramidal-kinds.ps pyramidal-kinds.r pyramidal-reads.Post
+tenahvar-pyramidal-unique κs a x y ws vs p q = let one = one-buffer p q in (one .0, λ i. (tt, (tt, (tt, (tt, (tt, (tt, (one .1 i, tt))))))))
+
+pub tenahvar-prismatic-unique : OneOutcome 5 prismatic-kinds.ps prismatic-kinds.r prismatic-reads.Post
+tenahvar-prismatic-unique κs a x y ws vs p q = let one = one-buffer p q in (one .0, λ i. (tt, (tt, (tt, (tt, (tt, (tt, (one .1 i, tt))))))))
+
+pub tenahvar-trilinear-unique : OneOutcome 5 trilinear-kinds.ps trilinear-kinds.r trilinear-reads.Post
+tenahvar-trilinear-unique κs a x y ws vs p q = let one = one-buffer p q in (one .0, λ i. (tt, (tt, (tt, (tt, (tt, (tt, (one .1 i, tt))))))))
+
+-- no `requires`
+pub tenahvar-layout-asks-nothing : (κs : _) (a : _) → layout-reads.Pre κs a
+tenahvar-layout-asks-nothing κs a = tt
+
+pub tenahvar-lookup-asks-nothing : (κs : _) (a : _) → lookup-reads.Pre κs a
+tenahvar-lookup-asks-nothing κs a = tt
+
+pub tenahvar-node-asks-nothing : (κs : _) (a : _) → node-reads.Pre κs a
+tenahvar-node-asks-nothing κs a = tt
+
+pub tenahvar-create-ranged-256-asks-nothing : (κs : _) (a : _) → create-ranged-256-reads.Pre κs a
+tenahvar-create-ranged-256-asks-nothing κs a = tt
+
+pub tenahvar-pyramidal-asks-nothing : (κs : _) (a : _) → pyramidal-reads.Pre κs a
+tenahvar-pyramidal-asks-nothing κs a = tt
+
+pub tenahvar-prismatic-asks-nothing : (κs : _) (a : _) → prismatic-reads.Pre κs a
+tenahvar-prismatic-asks-nothing κs a = tt
+
+pub tenahvar-trilinear-asks-nothing : (κs : _) (a : _) → trilinear-reads.Pre κs a
+tenahvar-trilinear-asks-nothing κs a = tt

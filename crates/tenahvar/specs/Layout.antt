@@ -1,0 +1,24 @@
+-- What a layout through C leaves in the three rows that are lent to it. Definitions only.
+use Prim.Native.Nat.{ℕ, zero, suc}
+use mathlib.Core.Path.{_≡_}
+use mathlib.Core.List.{List}
+use lib.Ieee.{Float}
+use Rattle.layout.specs.declared.Laid.{Laid}
+use Rattle.layout.specs.Layout.{laidOf, IsLayout}
+
+-- what a lent place holds after a call with the number r: the new value on 0, the old one on a refusal
+abbrev pub onDone : {A : Type 0} → ℕ → A → A → A
+onDone zero new old = new
+onDone (suc r) new old = old
+
+-- what `tenahvar_layout` owes: its number r, and the three rows afterwards, s, f and c, which were s₀, f₀ and c₀
+pub record LaidOut (sizes : List ℕ) (n m : ℕ) (s₀ f₀ : List ℕ) (c₀ : List Float) (r : ℕ) (s f : List ℕ) (c : List Float) : Type 0 where
+  pub number : r ≡ laidOf sizes n m .refusal
+  pub strides : s ≡ onDone (laidOf sizes n m .refusal) (laidOf sizes n m .lut .«grid_strides») s₀
+  pub filling : f ≡ onDone (laidOf sizes n m .refusal) (laidOf sizes n m .lut .«grid_filling_size») f₀
+  pub scale : c ≡ onDone (laidOf sizes n m .refusal) (laidOf sizes n m .lut .«grid_scale») c₀
+
+-- a layout's answer, and that its record is a layout's where no refusal is given
+pub record LaidBy (sizes : List ℕ) (n m : ℕ) (laid : Laid) : Type 0 where
+  pub answer : laid ≡ laidOf sizes n m
+  pub accepted : laid .refusal ≡ 0 → IsLayout (laid .lut)

@@ -1,0 +1,208 @@
+// The C interface: thin calls of the crates below, on numbers, slices and arrays. What each owes is in specs/.
+mod node;
+
+use cell::Cell;
+use layout::Laid;
+ghost use Rattle.cubes.specs.Blends.{pyramid, prism, trilinear};
+ghost use Rattle.tenahvar.specs.Layout.{LaidOut, LaidBy};
+ghost use Rattle.tenahvar.specs.Lookup.{LookedUp};
+ghost use Rattle.tenahvar.specs.Node.{NodeFound};
+ghost use Rattle.tenahvar.specs.Weights.{RangedInto};
+ghost use Rattle.tenahvar.specs.Cubes.{BlendedAt};
+
+// The layout's number; on 0 the record's three rows are written, on a refusal nothing is.
+#[no_mangle]
+pub extern "C" fn tenahvar_layout(
+    sizes: &[u8; 16],
+    n: usize,
+    m: usize,
+    grid_strides: &mut [u32; 16],
+    grid_filling_size: &mut [u32; 16],
+    grid_scale: &mut [f32; 16],
+) -> u32
+    ensures { λ r. ⌜ LaidOut (now (sizes .entry)) n m (now («grid_strides» .entry)) (now («grid_filling_size» .entry)) (now («grid_scale» .entry)) r (now («grid_strides» .exit)) (now («grid_filling_size» .exit)) (now («grid_scale» .exit)) ⌝ }
+{
+    let laid = layout::layout(*sizes, n, m);
+    if laid.refusal != 0 {
+        return laid.refusal;
+    }
+    let lut = laid.lut;
+    let strides = lut.grid_strides;
+    *grid_strides = strides;
+    let filling = lut.grid_filling_size;
+    *grid_filling_size = filling;
+    let scale = lut.grid_scale;
+    *grid_scale = scale;
+    0
+}
+
+// The layout of sizes by value: where it gives 0 its record is a layout's.
+fn laid_out(sizes: [u8; 16], n: usize, m: usize) -> Laid
+    ensures { λ r. ⌜ LaidBy sizes n m r ⌝ }
+{
+    layout::layout(sizes, n, m)
+}
+
+// Lays out, then looks up: refusals 1 to 5, then 6, 7, 8. On 0 the first m entries of `answer` are set.
+#[no_mangle]
+pub extern "C" fn tenahvar_lookup(
+    sizes: &[u8; 16],
+    n: usize,
+    m: usize,
+    table: &[f32],
+    inputs: &[f32],
+    answer: &mut [f32],
+) -> u32
+    ensures { λ r. ⌜ LookedUp (now (sizes .entry)) n m (now (table .entry)) (now (inputs .entry)) (now (answer .entry)) r (now (answer .exit)) ⌝ }
+{
+    let laid = laid_out(*sizes, n, m);
+    if laid.refusal != 0 {
+        return laid.refusal;
+    }
+    lookup::lookup(laid.lut, table, inputs, answer)
+}
+
+// Lays out, then finds the node: refusals 1 to 5, then 6, 7, 10. On 0 `offset` is where its m entries start in the table.
+#[no_mangle]
+pub extern "C" fn tenahvar_node(
+    sizes: &[u8; 16],
+    n: usize,
+    m: usize,
+    table: &[f32],
+    coordinates: &[usize],
+    offset: &mut usize,
+) -> u32
+    ensures { λ r. ⌜ NodeFound (now (sizes .entry)) n m (now (table .entry)) (now (coordinates .entry)) (now (offset .entry)) r (now (offset .exit)) ⌝ }
+{
+    let laid = laid_out(*sizes, n, m);
+    if laid.refusal != 0 {
+        return laid.refusal;
+    }
+    let lut = laid.lut;
+    let refusal = lookup::node_refusal(lut, table, coordinates);
+    if refusal != 0 {
+        return refusal;
+    }
+    let first = layout::entry_offset(node::number(lut.grid_size, coordinates), m as u32);
+    *offset = first.0 as usize;
+    0
+}
+
+// The cells of all 256 codes on an axis of g lines: lower nodes, upper nodes and weights. Refused, nothing is written.
+#[no_mangle]
+pub extern "C" fn tenahvar_create_ranged_256(
+    g: u8,
+    x: &mut [usize; 256],
+    x_n: &mut [usize; 256],
+    w: &mut [f32; 256],
+) -> u32
+    ensures { λ r. ⌜ RangedInto g (now (x .entry)) (now («x_n» .entry)) (now (w .entry)) r (now (x .exit)) (now («x_n» .exit)) (now (w .exit)) ⌝ }
+{
+    let ranged = weights::create_ranged_256(g);
+    if ranged.refusal != 0 {
+        return ranged.refusal;
+    }
+    let cells = ranged.weights;
+    let mut i: usize = 0;
+    while i < 256 {
+        let c = cells[i];
+        x[i] = c.x;
+        x_n[i] = c.x_n;
+        w[i] = c.w;
+        i += 1;
+    }
+    0
+}
+
+// The pyramid method: refusals 2, 3, 6, 8, 10.
+#[no_mangle]
+pub extern "C" fn tenahvar_pyramidal(
+    x: &[usize; 3],
+    x_n: &[usize; 3],
+    w: &[f32; 3],
+    g: u8,
+    m: usize,
+    cube: &[f32],
+    answer: &mut [f32],
+) -> u32
+    ensures { λ r. ⌜ BlendedAt pyramid (now (x .entry)) (now («x_n» .entry)) (now (w .entry)) g m (now (cube .entry)) (now (answer .entry)) r (now (answer .exit)) ⌝ }
+{
+    let cx = Cell {
+        x: x[0],
+        x_n: x_n[0],
+        w: w[0],
+    };
+    let cy = Cell {
+        x: x[1],
+        x_n: x_n[1],
+        w: w[1],
+    };
+    let cz = Cell {
+        x: x[2],
+        x_n: x_n[2],
+        w: w[2],
+    };
+    cubes::pyramidal(cx, cy, cz, g, m, cube, answer)
+}
+
+// The prism method: refusals 2, 3, 6, 8, 10.
+#[no_mangle]
+pub extern "C" fn tenahvar_prismatic(
+    x: &[usize; 3],
+    x_n: &[usize; 3],
+    w: &[f32; 3],
+    g: u8,
+    m: usize,
+    cube: &[f32],
+    answer: &mut [f32],
+) -> u32
+    ensures { λ r. ⌜ BlendedAt prism (now (x .entry)) (now («x_n» .entry)) (now (w .entry)) g m (now (cube .entry)) (now (answer .entry)) r (now (answer .exit)) ⌝ }
+{
+    let cx = Cell {
+        x: x[0],
+        x_n: x_n[0],
+        w: w[0],
+    };
+    let cy = Cell {
+        x: x[1],
+        x_n: x_n[1],
+        w: w[1],
+    };
+    let cz = Cell {
+        x: x[2],
+        x_n: x_n[2],
+        w: w[2],
+    };
+    cubes::prismatic(cx, cy, cz, g, m, cube, answer)
+}
+
+// The trilinear method: refusals 2, 3, 6, 8, 10.
+#[no_mangle]
+pub extern "C" fn tenahvar_trilinear(
+    x: &[usize; 3],
+    x_n: &[usize; 3],
+    w: &[f32; 3],
+    g: u8,
+    m: usize,
+    cube: &[f32],
+    answer: &mut [f32],
+) -> u32
+    ensures { λ r. ⌜ BlendedAt trilinear (now (x .entry)) (now («x_n» .entry)) (now (w .entry)) g m (now (cube .entry)) (now (answer .entry)) r (now (answer .exit)) ⌝ }
+{
+    let cx = Cell {
+        x: x[0],
+        x_n: x_n[0],
+        w: w[0],
+    };
+    let cy = Cell {
+        x: x[1],
+        x_n: x_n[1],
+        w: w[1],
+    };
+    let cz = Cell {
+        x: x[2],
+        x_n: x_n[2],
+        w: w[2],
+    };
+    cubes::trilinear(cx, cy, cz, g, m, cube, answer)
+}

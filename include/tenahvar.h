@@ -1,0 +1,68 @@
+/* Tenahvar: colour lookup of 1 to 15 inks in a grid of binary32 entries.
+ *
+ * Each function answers a number: 0, done, or the first refusal that applies. On a refusal it has written nothing.
+ * Memory: it is lent for the time of the call alone; nothing is kept, allocated or freed.
+ * Threads: there is no state, so any function may be called from any thread at any time.
+ * Pointers: none may be null, also where a length is 0, and what a function writes to may overlap nothing else that it is given.
+ * Lengths count entries, not bytes. A 64-bit processor is asked for: size_t has 64 bits, float is IEEE 754 binary32.
+ */
+#ifndef TENAHVAR_H
+#define TENAHVAR_H
+
+#include <stddef.h>
+#include <stdint.h>
+
+#ifdef __cplusplus
+extern "C" {
+#endif
+
+/* What a call answers. */
+#define TENAHVAR_DONE 0            /* done */
+#define TENAHVAR_INPUT_INKS 1      /* n is outside 1..15 */
+#define TENAHVAR_OUTPUT_INKS 2     /* m is outside 1..15; cube methods: m is not 3 or 4 */
+#define TENAHVAR_ZERO_SIZE 3       /* a size in use is 0 */
+#define TENAHVAR_UNEQUAL_SIZES 4   /* the sizes in use are not equal */
+#define TENAHVAR_LARGE_TOTAL 5     /* the total is above 4,294,967,295 */
+#define TENAHVAR_SHORT_TABLE 6     /* the table is shorter than the total */
+#define TENAHVAR_INPUT_COUNT 7     /* the number of inputs, or of node coordinates, is not n */
+#define TENAHVAR_SHORT_ANSWER 8    /* the answer buffer is shorter than m */
+#define TENAHVAR_FOREIGN_RECORD 9  /* a layout record is not one that an accepted layout gives: no function below takes a record */
+#define TENAHVAR_OUTSIDE_GRID 10   /* a node, of a cell or of the coordinates, is outside 0..g-1 */
+
+/* A layout: the first n of the sixteen sizes are in use and are one value g; there are n inks in and m out, and g^n * m entries, the total.
+ * In the table the first ink varies least rapidly, the last most rapidly, and the m entries of a node stand together. */
+
+/* Refusals 1 to 5, in that order. On 0 it writes, for ink i from 0, the nodes and the table entries from one line of the ink to its next, and g-1;
+ * unused places are set to 1, 1 and +0.0. */
+uint32_t tenahvar_layout(const uint8_t sizes[16], size_t n, size_t m,
+                         uint32_t grid_strides[16], uint32_t grid_filling_size[16], float grid_scale[16]);
+
+/* The colour at `inputs`: refusals 1 to 5, then 6, 7, 8. On 0 it sets the first m entries of `answer` and no others. */
+uint32_t tenahvar_lookup(const uint8_t sizes[16], size_t n, size_t m,
+                         const float *table, size_t table_length,
+                         const float *inputs, size_t inputs_length,
+                         float *answer, size_t answer_length);
+
+/* Where a node's m entries stand in the table: refusals 1 to 5, then 6, 7, 10. On 0 the node is table[*offset] .. table[*offset + m - 1]. */
+uint32_t tenahvar_node(const uint8_t sizes[16], size_t n, size_t m,
+                       const float *table, size_t table_length,
+                       const size_t *coordinates, size_t coordinates_length,
+                       size_t *offset);
+
+/* For each 8-bit ink code its lower node, upper node and weight on an axis of g lines: refusal 3. */
+uint32_t tenahvar_create_ranged_256(uint8_t g, size_t x[256], size_t x_n[256], float w[256]);
+
+/* A colour in a cube of g^3 nodes with m entries each, by the lower nodes, upper nodes and weights on its three axes:
+ * refusals 2, 3, 6, 8, 10. On 0 the first m entries of `answer` are set and no others. */
+uint32_t tenahvar_pyramidal(const size_t x[3], const size_t x_n[3], const float w[3], uint8_t g, size_t m,
+                            const float *cube, size_t cube_length, float *answer, size_t answer_length);
+uint32_t tenahvar_prismatic(const size_t x[3], const size_t x_n[3], const float w[3], uint8_t g, size_t m,
+                            const float *cube, size_t cube_length, float *answer, size_t answer_length);
+uint32_t tenahvar_trilinear(const size_t x[3], const size_t x_n[3], const float w[3], uint8_t g, size_t m,
+                            const float *cube, size_t cube_length, float *answer, size_t answer_length);
+
+#ifdef __cplusplus
+}
+#endif
+
+#endif

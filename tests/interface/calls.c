@@ -1,0 +1,140 @@
+/* Calls every function of the header: each refusal in its place, the checked numbers, and that nothing else is written.
+ * Prints what does not hold, then the count of checks. */
+#include <stdio.h>
+#include <string.h>
+#include "tenahvar.h"
+
+static int checks, failed;
+#define EXPECT(claim) (checks++, (claim) ? 0 : (failed++, printf("calls.c:%d: not so: %s\n", __LINE__, #claim)))
+
+static const float UNTOUCHED = 7.5f;
+
+static int all(const float *x, size_t count, float value) {
+    for (size_t i = 0; i < count; i++)
+        if (memcmp(&x[i], &value, sizeof value) != 0) return 0;
+    return 1;
+}
+
+static void reset(float *x, size_t count) {
+    for (size_t i = 0; i < count; i++) x[i] = UNTOUCHED;
+}
+
+/* Sixteen sizes g, of which the second may differ. */
+static const uint8_t *sizes_of(uint8_t g, uint8_t second) {
+    static uint8_t sizes[16];
+    memset(sizes, g, sizeof sizes);
+    sizes[1] = second;
+    return sizes;
+}
+
+/* What all three calls that take a layout refuse first. */
+static const struct { uint8_t g, second; size_t n, m; uint32_t number; } layouts[] = {
+    {2, 2, 0, 0, TENAHVAR_INPUT_INKS},      {2, 2, 16, 3, TENAHVAR_INPUT_INKS},   {2, 2, ((size_t)1 << 32) + 3, 3, TENAHVAR_INPUT_INKS},
+    {0, 0, 3, 0, TENAHVAR_OUTPUT_INKS},     {2, 2, 3, 16, TENAHVAR_OUTPUT_INKS},  {2, 2, 3, ((size_t)1 << 32) + 3, TENAHVAR_OUTPUT_INKS},
+    {0, 2, 2, 1, TENAHVAR_ZERO_SIZE},       {2, 0, 2, 1, TENAHVAR_ZERO_SIZE},     {2, 3, 2, 1, TENAHVAR_UNEQUAL_SIZES},
+    {4, 4, 15, 4, TENAHVAR_LARGE_TOTAL},    {255, 255, 4, 2, TENAHVAR_LARGE_TOTAL}, {255, 255, 15, 15, TENAHVAR_LARGE_TOTAL},
+};
+
+static void layout_calls(void) {
+    uint32_t strides[16], filling[16], untouched[16];
+    float scale[16], one;
+    size_t offset = 99;
+    memset(untouched, 0xA5, sizeof untouched);
+    memset(strides, 0xA5, sizeof strides);
+    memset(filling, 0xA5, sizeof filling);
+    reset(scale, 16);
+    reset(&one, 1);
+    for (size_t i = 0; i < sizeof layouts / sizeof *layouts; i++) {
+        const uint8_t *sizes = sizes_of(layouts[i].g, layouts[i].second);
+        size_t n = layouts[i].n, m = layouts[i].m;
+        EXPECT(tenahvar_layout(sizes, n, m, strides, filling, scale) == layouts[i].number);
+        EXPECT(tenahvar_lookup(sizes, n, m, &one, 0, &one, 0, &one, 0) == layouts[i].number);
+        EXPECT(tenahvar_node(sizes, n, m, &one, 0, &offset, 0, &offset) == layouts[i].number);
+    }
+    EXPECT(memcmp(strides, untouched, sizeof strides) == 0);
+    EXPECT(memcmp(filling, untouched, sizeof filling) == 0);
+    EXPECT(all(scale, 16, UNTOUCHED) && all(&one, 1, UNTOUCHED) && offset == 99);
+
+    EXPECT(tenahvar_layout(sizes_of(17, 17), 4, 3, strides, filling, scale) == TENAHVAR_DONE);
+    EXPECT(strides[0] == 4913 && strides[1] == 289 && strides[2] == 17 && strides[3] == 1 && strides[4] == 1 && strides[15] == 1);
+    EXPECT(filling[0] == 14739 && filling[1] == 867 && filling[2] == 51 && filling[3] == 3 && filling[4] == 1 && filling[15] == 1);
+    EXPECT(all(scale, 4, 16.0f) && all(scale + 4, 12, 0.0f));
+    EXPECT(tenahvar_layout(sizes_of(4, 4), 15, 3, strides, filling, scale) == TENAHVAR_DONE && filling[0] == 805306368);
+    EXPECT(tenahvar_layout(sizes_of(255, 255), 4, 1, strides, filling, scale) == TENAHVAR_DONE && strides[0] == 16581375);
+    EXPECT(tenahvar_layout(sizes_of(2, 0), 1, 1, strides, filling, scale) == TENAHVAR_DONE);
+}
+
+static void lookup_calls(void) {
+    const float line[] = {0.0f, 1.0f}, square[] = {0.0f, 1.0f, 2.0f, 3.0f}, cube[] = {0, 0, 0, 0, 0, 0, 0, 1};
+    const float inks[] = {0.5f, 0.25f, 0.75f};
+    float answer[3], ink = 2.0f;
+    reset(answer, 3);
+    EXPECT(tenahvar_lookup(sizes_of(2, 2), 2, 1, square, 3, inks, 1, answer, 0) == TENAHVAR_SHORT_TABLE);
+    EXPECT(tenahvar_lookup(sizes_of(2, 2), 2, 1, square, 3, inks, 2, answer, 3) == TENAHVAR_SHORT_TABLE);
+    EXPECT(tenahvar_lookup(sizes_of(2, 2), 2, 1, square, 4, inks, 3, answer, 3) == TENAHVAR_INPUT_COUNT);
+    EXPECT(tenahvar_lookup(sizes_of(2, 2), 2, 1, square, 4, inks, 3, answer, 0) == TENAHVAR_INPUT_COUNT);
+    EXPECT(tenahvar_lookup(sizes_of(2, 2), 1, 2, square, 4, inks, 1, answer, 1) == TENAHVAR_SHORT_ANSWER);
+    EXPECT(all(answer, 3, UNTOUCHED));
+    EXPECT(tenahvar_lookup(sizes_of(2, 9), 1, 1, line, 2, &ink, 1, answer, 3) == TENAHVAR_DONE && all(answer, 1, 1.0f));
+    EXPECT(tenahvar_lookup(sizes_of(2, 2), 2, 1, square, 4, inks, 2, answer, 3) == TENAHVAR_DONE && all(answer, 1, 1.25f));
+    EXPECT(tenahvar_lookup(sizes_of(2, 2), 3, 1, cube, 8, inks, 3, answer, 3) == TENAHVAR_DONE && all(answer, 1, 0.25f));
+    EXPECT(all(answer + 1, 2, UNTOUCHED));
+}
+
+static void node_calls(void) {
+    float table[18] = {0};
+    const size_t inside[] = {1, 2, 0}, outside[] = {0, 3};
+    size_t offset = 99;
+    EXPECT(tenahvar_node(sizes_of(3, 3), 2, 2, table, 17, outside, 1, &offset) == TENAHVAR_SHORT_TABLE);
+    EXPECT(tenahvar_node(sizes_of(3, 3), 2, 2, table, 18, outside, 1, &offset) == TENAHVAR_INPUT_COUNT);
+    EXPECT(tenahvar_node(sizes_of(3, 3), 2, 2, table, 18, inside, 3, &offset) == TENAHVAR_INPUT_COUNT);
+    EXPECT(tenahvar_node(sizes_of(3, 3), 2, 2, table, 18, outside, 2, &offset) == TENAHVAR_OUTSIDE_GRID);
+    EXPECT(offset == 99);
+    EXPECT(tenahvar_node(sizes_of(3, 3), 2, 2, table, 18, inside, 2, &offset) == TENAHVAR_DONE && offset == 10);
+}
+
+static void weight_calls(void) {
+    size_t x[256], x_n[256], untouched[256];
+    float w[256];
+    memset(untouched, 0xA5, sizeof untouched);
+    memset(x, 0xA5, sizeof x);
+    memset(x_n, 0xA5, sizeof x_n);
+    reset(w, 256);
+    EXPECT(tenahvar_create_ranged_256(0, x, x_n, w) == TENAHVAR_ZERO_SIZE);
+    EXPECT(memcmp(x, untouched, sizeof x) == 0 && memcmp(x_n, untouched, sizeof x_n) == 0 && all(w, 256, UNTOUCHED));
+    EXPECT(tenahvar_create_ranged_256(33, x, x_n, w) == TENAHVAR_DONE);
+    EXPECT(x[128] == 16 && x_n[128] == 17 && all(w + 128, 1, 32897.0f / 524288.0f));
+    EXPECT(x[255] == 32 && x_n[255] == 32 && all(w + 255, 1, 0.0f));
+    EXPECT(tenahvar_create_ranged_256(1, x, x_n, w) == TENAHVAR_DONE && x[200] == 0 && x_n[200] == 0 && all(w, 256, 0.0f));
+}
+
+typedef uint32_t cube_method(const size_t *, const size_t *, const float *, uint8_t, size_t, const float *, size_t, float *, size_t);
+
+static void cube_calls(cube_method *method, float colour) {
+    const size_t low[] = {0, 0, 0}, high[] = {1, 1, 1}, past[] = {1, 1, 2};
+    const float w[] = {0.5f, 0.25f, 0.75f};
+    float cube[24] = {0}, answer[4];
+    cube[21] = cube[22] = cube[23] = 1.0f;
+    reset(answer, 4);
+    EXPECT(method(low, past, w, 0, 5, cube, 0, answer, 0) == TENAHVAR_OUTPUT_INKS);
+    EXPECT(method(low, past, w, 0, 3, cube, 0, answer, 0) == TENAHVAR_ZERO_SIZE);
+    EXPECT(method(low, past, w, 2, 3, cube, 23, answer, 0) == TENAHVAR_SHORT_TABLE);
+    EXPECT(method(low, past, w, 2, 3, cube, 24, answer, 2) == TENAHVAR_SHORT_ANSWER);
+    EXPECT(method(low, past, w, 2, 3, cube, 24, answer, 4) == TENAHVAR_OUTSIDE_GRID);
+    EXPECT(method(past, high, w, 2, 3, cube, 24, answer, 4) == TENAHVAR_OUTSIDE_GRID);
+    EXPECT(all(answer, 4, UNTOUCHED));
+    EXPECT(method(high, low, w, 2, 3, cube, 24, answer, 4) == TENAHVAR_DONE);
+    EXPECT(method(low, high, w, 2, 3, cube, 24, answer, 4) == TENAHVAR_DONE && all(answer, 3, colour) && all(answer + 3, 1, UNTOUCHED));
+}
+
+int main(void) {
+    layout_calls();
+    lookup_calls();
+    node_calls();
+    weight_calls();
+    cube_calls(tenahvar_pyramidal, 0.25f);
+    cube_calls(tenahvar_prismatic, 0.125f);
+    cube_calls(tenahvar_trilinear, 0.09375f);
+    printf("calls: %d checks, %d failed\n", checks, failed);
+    return failed != 0;
+}
