@@ -21,7 +21,6 @@ pub data Asked : Type 0 where
   total : List ℕ → ℕ → ℕ → Asked  -- a layout's number and total: sizes, n, m
   strides : ℕ → ℕ → ℕ → Asked  -- the same of a layout whose sizes are all g, then its strides and filling sizes: g, n, m
   look : ℕ → ℕ → ℕ → List Float → List Float → Asked  -- a lookup's number and the bits of its answers: g, n, m, table, inputs
-
   cube : Blend → ℕ → ℕ → List Float → Float → Float → Float → Asked  -- the same of a cube method between the lines 0 and 1: g, m, table, three weights
   weight : ℕ → ℕ → Asked  -- the number, nodes and weight bits of an 8-bit code: g, index
 
