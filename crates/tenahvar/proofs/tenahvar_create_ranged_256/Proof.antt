@@ -1,6 +1,6 @@
 -- `tenahvar::tenahvar_create_ranged_256` meets its contract: after i turns the first i places of each array hold the cells of the codes below i.
 -- Assumes nothing.
-use Prim.Native.Nat.{ℕ, _-_, _≤_}
+use Prim.Native.Nat.{_-_, _≤_, _<_}
 use mathlib.Core.Path.{_≡_, refl, sym, ap, _∙_}
 use native.Mathlib.Omega.{arith}
 use borrow.Author.Needs.{needs}
@@ -38,7 +38,7 @@ loop-again c =
     let at = c .before .before .loop in
     let is = c .before .before .before .before .before .before .create-ranged-256 .ensures in
     let done = c .before .before .before .before .if1 .left in
-    let below = c .before .loop-test .taken in (
+    let below : at .i < 256 = omega (arith, c .before .loop-test .taken) in (
       omega arith,
       code-next (λ (d : Cell). d .x) _ (at .i) _ _ _ is done below (at .inv .1),
       code-next (λ (d : Cell). d .«x_n») _ (at .i) _ _ _ is done below (at .inv .2),
