@@ -1,14 +1,14 @@
 -- What the probe prints, from what its parts say: the layout's record, and the lookup's number and answers.
 -- Assumes nothing.
-use Prim.Native.Nat.{ℕ, zero, suc, _+_, _≤_, _<_}
+use Prim.Native.Nat.{ℕ, zero, suc, _≤_, _<_}
 use mathlib.Core.Path.{_≡_, refl, sym, _∙_, ap}
-use mathlib.Core.Bool.{Bool, true}
+use mathlib.Core.Bool.{true}
 use mathlib.Core.List.{List, [], _∷_, _++_, map}
 use native.Mathlib.Nat.{zero-add}
 use native.Mathlib.Omega.{arith}
 use lib.Ieee.{Float, nan}
 use lib.ListN.{length, getD, take, drop, replicate, length-append, length-take, length-drop}
-use lib.Seq.{length-take-le, getD-take, ext-getD, sets, sets-eq}
+use lib.Seq.{length-take-le, getD-take, ext-getD, sets-eq}
 use borrow.Author.Tests.{lt-ltb}
 use Rattle.lists.specs.Lists.{tabulate}
 use Rattle.lists.specs.Buffer.{written, left}

@@ -2,7 +2,7 @@
 use Prim.Native.Nat.{ℕ, zero, suc, _≤_}
 use mathlib.Core.Path.{_≡_}
 use mathlib.Core.Bool.{true}
-use mathlib.Core.List.{List, [], _∷_, _++_, map}
+use mathlib.Core.List.{List, _++_, map}
 use lib.Ieee.{Float, binary32, div}
 use lib.ListN.{length, getD, take, drop, replicate}
 use Rattle.binary32.specs.Numbers.{ofWhole}

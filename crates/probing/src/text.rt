@@ -1,5 +1,4 @@
 // A report as text, in ASCII. Each function writes at a place of a buffer and answers the place after what it wrote.
-ghost use mathlib.Core.Path.{_≡_};
 ghost use Prim.Native.Nat.{_+_, _*_, _≤_, _<_};
 ghost use mathlib.Core.List.{map, [], _∷_};
 ghost use lib.ListN.{length};

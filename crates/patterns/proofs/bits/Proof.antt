@@ -1,5 +1,5 @@
 -- `patterns::bits` meets its contract: a NaN is told by `x == x`, and its bits are written out. Assumes nothing.
-use mathlib.Core.Path.{_≡_, sym, _∙_, ap, subst}
+use mathlib.Core.Path.{_≡_, sym, ap, subst}
 use mathlib.Core.Bool.{true, false, not}
 use borrow.Author.Needs.{needs}
 use lib.Dec.{T}

@@ -1,7 +1,7 @@
 -- `patterns::float` meets its contract: a pattern is a NaN's where its lower 31 bits are above those of an infinity. Assumes nothing.
 use Prim.Native.Nat.{ℕ, _%_, _≤_, _<_}
 use mathlib.Core.Path.{_≡_, refl, sym, _∙_, subst}
-use mathlib.Core.Bool.{Bool, true, false, not}
+use mathlib.Core.Bool.{Bool, true, not}
 use lib.Dec.{T}
 use lib.Ieee.{Float, nan, inf, fin, binary32, div, isNan, ofBits, nanBits}
 use lib.Ieee.Bits.{nanBits-is, nanBits-above}

@@ -1,16 +1,14 @@
 -- `probing::probed` meets its contract: what each call says is what the definition says of the bytes. Assumes nothing.
-use Prim.Native.Nat.{ℕ, _≤_, _<_}
+use Prim.Native.Nat.{_≤_, _<_}
 use mathlib.Core.Path.{_≡_, refl, sym, _∙_, ap}
-use mathlib.Core.List.{List, []}
+use mathlib.Core.List.{[]}
 use native.Mathlib.Omega.{arith}
-use lib.Ieee.{Float}
-use lib.ListN.{length, take, replicate, drop, length-take, length-drop}
+use lib.ListN.{length, take, length-take}
 use lib.Seq.{length-take-le}
 use borrow.Author.Needs.{needs}
-use Rattle.binary32.specs.Numbers.{plusZero}
 use Rattle.lists.proofs.Buffer.{length-left}
 use Rattle.probing.specs.Text.{report}
-use Rattle.probing.specs.Probe.{probeOutput, Probed}
+use Rattle.probing.specs.Probe.{probeOutput}
 use Rattle.probing.proofs.Shown.{Asked, layout-refuses, inks-up-to, outputs-up-to, lookup-refuses, lookup-answers, refusal-fits, answers-fit, table-fits, probed-of}
 use Rattle.probing.proofs.probed.Statement.{statement}
 use Rattle.probing.proofs.probed.Tie as tie

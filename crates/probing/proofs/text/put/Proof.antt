@@ -1,15 +1,13 @@
 -- `probing::text::put` meets its contract: after i turns the first i bytes of the text stand in the buffer. Assumes nothing.
-use Prim.Native.Nat.{ℕ, _+_, _-_, _≤_}
-use mathlib.Core.Path.{_≡_, refl, ap}
-use mathlib.Core.List.{List}
-use native.Mathlib.Nat.{add-zero}
+use Prim.Native.Nat.{_+_, _-_, _≤_}
+use mathlib.Core.Path.{_≡_, refl}
 use native.Mathlib.Numerals.{add-one}
 use native.Mathlib.Omega.{arith}
 use lib.ListN.{length, take, length-set}
 use lib.Seq.{take-suc, take-all}
 use borrow.Author.Needs.{needs}
 use Rattle.probing.specs.Put.{Put}
-use Rattle.probing.proofs.Stores.{put-length, put-then}
+use Rattle.probing.proofs.Stores.{put-then}
 use Rattle.probing.proofs.text.put.Statement.{statement}
 use Rattle.probing.proofs.text.put.Tie as tie
 
