@@ -5,6 +5,8 @@ use Rattle.outcome.specs.Outcome.{OneOutcome}
 use Rattle.outcome.proofs.Decided.{decided}
 use Rattle.layout.proofs.layout.Kinds as layout-kinds
 use Rattle.layout.proofs.layout.Reads as layout-reads
+use Rattle.layout.proofs.filling_sizes.Kinds as filling-sizes-kinds
+use Rattle.layout.proofs.filling_sizes.Reads as filling-sizes-reads
 use Rattle.layout.proofs.is_layout.Kinds as is-layout-kinds
 use Rattle.layout.proofs.is_layout.Reads as is-layout-reads
 use Rattle.layout.proofs.entry_count.Kinds as entry-count-kinds
@@ -14,6 +16,11 @@ use Rattle.layout.proofs.entry_offset.Reads as entry-offset-reads
 
 pub layout-unique : OneOutcome 0 layout-kinds.ps layout-kinds.r layout-reads.Post
 layout-unique κs a x y ws vs p q = (p ∙ sym q, refl)
+
+pub filling-sizes-unique : OneOutcome 2 filling-sizes-kinds.ps filling-sizes-kinds.r filling-sizes-reads.Post
+filling-sizes-unique κs a x y ws vs p q =
+    let row = p .row ∙ sym (q .row) in
+    (p .number ∙ sym (q .number), λ i. (tt, (tt, (tt, (row i, tt)))))
 
 pub is-layout-unique : OneOutcome 0 is-layout-kinds.ps is-layout-kinds.r is-layout-reads.Post
 is-layout-unique κs a x y ws vs p q = (decided x y p q, refl)
@@ -27,6 +34,9 @@ entry-offset-unique κs a x y ws vs p q = ((λ i. record { 0 = (p ∙ sym q) i }
 -- no `requires`
 pub layout-asks-nothing : (κs : _) (a : _) → layout-reads.Pre κs a
 layout-asks-nothing κs a = tt
+
+pub filling-sizes-asks-nothing : (κs : _) (a : _) → filling-sizes-reads.Pre κs a
+filling-sizes-asks-nothing κs a = tt
 
 pub is-layout-asks-nothing : (κs : _) (a : _) → is-layout-reads.Pre κs a
 is-layout-asks-nothing κs a = tt

@@ -7,6 +7,7 @@ use mathlib.Core.List.{List}
 use lib.Dec.{leb, ltb, eqb, T}
 use lib.ListN.{length, getD, take, replicate}
 use lib.Pow.{areBytes}
+use Rattle.outcome.specs.Outcome.{onDone}
 use Rattle.binary32.specs.Numbers.{plusZero, ofWhole}
 use Rattle.lists.specs.Lists.{tabulate, every, product}
 use Rattle.layout.specs.declared.MultidimensionalLut.{MultidimensionalLut}
@@ -89,6 +90,13 @@ pub record IsLayout (lut : MultidimensionalLut) : Type 0 where
   pub sixteen : length sizes ≡ 16
   pub bytes : T (areBytes sizes)
   pub accepted : laidOf sizes n m ≡ record { refusal = 0; lut = lut }
+
+-- what `filling_sizes` owes: its number r, and the row afterwards, `now`, which was `old`
+pub record FillingOf (sizes : List ℕ) (n m : ℕ) (old : List ℕ) (r : ℕ) (now : List ℕ) : Type 0 where
+  pub number : r ≡ laidOf sizes n m .refusal
+  pub row : now ≡ onDone (laidOf sizes n m .refusal) (laidOf sizes n m .lut .«grid_filling_size») old
+  -- which follows, since the sizes are sixteen bytes: a caller that lends them cannot tell
+  pub laid : r ≡ 0 → IsLayout (laidOf sizes n m .lut)
 
 -- the sizes of a record's inks, last ink first
 abbrev pub inkSizes : MultidimensionalLut → List ℕ

@@ -1,3 +1,4 @@
 pub mod Order
 pub mod Layout
 pub mod Places
+pub mod Tested

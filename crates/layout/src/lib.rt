@@ -3,13 +3,12 @@ mod places;
 mod sizes;
 
 ghost use mathlib.Core.Path.{_≡_};
-ghost use mathlib.Core.Bool.{true};
 ghost use Prim.Native.Nat.{_*_, _≤_};
 ghost use lib.ListN.{take, getD};
-ghost use lib.Dec.{ltb};
-ghost use Rattle.lists.specs.Lists.{every};
 ghost use Rattle.outcome.specs.Outcome.{Decides};
-ghost use Rattle.layout.specs.Layout.{isCount, total, limit, recordOf, refusedBy, laidOf, IsLayout};
+ghost use Rattle.binary32.specs.Numbers.{plusZero};
+ghost use Rattle.layout.specs.Layout.{isCount, stride, places, refusedBy, laidOf, IsLayout, FillingOf};
+ghost use Rattle.layout.specs.Tested.{Tested, Fills};
 
 // The record of a layout. The strides count nodes, the filling sizes count table entries.
 pub struct MultidimensionalLut {
@@ -77,34 +76,74 @@ fn is_count(n: usize) -> bool
     n <= 15
 }
 
-// The record of sizes that passed every test. From the last ink down, each stride is the one before it times the next size.
-fn record_of(sizes: [u8; 16], n: usize, m: usize) -> MultidimensionalLut
-    requires { ⌜ isCount n ≡ true ⌝ }
-    requires { ⌜ isCount m ≡ true ⌝ }
-    requires { ⌜ every (ltb 0) (take n sizes) ≡ true ⌝ }
-    requires { ⌜ total (take n sizes) m ≤ limit ⌝ }
-    ensures { λ r. ⌜ r ≡ recordOf (take n sizes) n m ⌝ }
+// The layout's number: the first refusal that applies, else 0.
+fn refusal_of(sizes: &[u8; 16], n: usize, m: usize) -> u32
+    ensures { λ r. ⌜ Tested (now (sizes .entry)) n m r ⌝ }
 {
-    let first = sizes[0];
-    let scale = (first - 1) as f32;
-    let outputs = m as u32;
-    let mut grid_strides = [1u32; 16];
-    let mut grid_filling_size = [1u32; 16];
-    let mut grid_scale = [0.0f32; 16];
-    let mut stride: u32 = 1;
+    sizes::sixteen(*sizes);
+    if !is_count(n) {
+        return 1;
+    }
+    if !is_count(m) {
+        return 2;
+    }
+    if !sizes::above_zero(sizes, n) {
+        return 3;
+    }
+    if !sizes::equal(sizes, n) {
+        return 4;
+    }
+    if sizes::LIMIT < sizes::capped(sizes, n, m as u64) {
+        return 5;
+    }
+    0
+}
+
+// A row of the record. From the last ink down each place holds the one before it times the next size; the last ink's holds `first`.
+fn fill(row: &mut [u32; 16], first: u32, sizes: &[u8; 16], n: usize)
+    requires { ⌜ Fills (now sizes) n first ⌝ }
+    ensures { λ r. ⌜ now (row .exit) ≡ places n (λ i. first * stride (take n (now (sizes .entry))) n i) 1 ⌝ }
+{
+    *row = [1u32; 16];
+    let mut value = first;
     let mut i = n;
     while 0 < i {
         i -= 1;
-        grid_strides[i] = stride;
-        grid_filling_size[i] = outputs * stride;
-        grid_scale[i] = scale;
-        stride = stride * (sizes[n - i - 1] as u32);
+        row[i] = value;
+        value = value * (sizes[n - i - 1] as u32);
     }
+}
+
+// The record's row of scales: the same for each ink.
+fn scales(scale: f32, n: usize) -> [f32; 16]
+    requires { ⌜ n ≤ 16 ⌝ }
+    ensures { λ r. ⌜ r ≡ places n (λ i. scale) plusZero ⌝ }
+{
+    let mut row = [0.0f32; 16];
+    let mut ink = n;
+    while 0 < ink {
+        ink -= 1;
+        row[ink] = scale;
+    }
+    row
+}
+
+// The record of sizes that passed every test.
+fn record_of(sizes: &[u8; 16], n: usize, m: usize) -> MultidimensionalLut
+    requires { ⌜ Tested (now sizes) n m 0 ⌝ }
+    ensures { λ r. ⌜ r ≡ laidOf (now (sizes .entry)) n m .lut ⌝ }
+{
+    let mut grid_strides = [1u32; 16];
+    fill(&mut grid_strides, 1, sizes, n);
+    let mut grid_filling_size = [1u32; 16];
+    fill(&mut grid_filling_size, m as u32, sizes, n);
+    let size = sizes[0];
+    let grid_scale = scales((size - 1) as f32, n);
     MultidimensionalLut {
         grid_strides,
         grid_filling_size,
         grid_scale,
-        grid_size: first,
+        grid_size: size,
         input_inks: n,
         output_inks: m,
     }
@@ -114,23 +153,24 @@ fn record_of(sizes: [u8; 16], n: usize, m: usize) -> MultidimensionalLut
 pub fn layout(sizes: [u8; 16], n: usize, m: usize) -> Laid
     ensures { λ r. ⌜ r ≡ laidOf sizes n m ⌝ }
 {
-    if !is_count(n) {
-        return refused(1);
+    let refusal = refusal_of(&sizes, n, m);
+    if refusal != 0 {
+        return refused(refusal);
     }
-    if !is_count(m) {
-        return refused(2);
-    }
-    if !sizes::above_zero(sizes, n) {
-        return refused(3);
-    }
-    if !sizes::equal(sizes, n) {
-        return refused(4);
-    }
-    if sizes::LIMIT < sizes::capped(sizes, n, m as u64) {
-        return refused(5);
-    }
-    let lut = record_of(sizes, n, m);
+    let lut = record_of(&sizes, n, m);
     Laid { refusal: 0, lut }
+}
+
+// The filling sizes of a layout without its record. On 0 `filling` is the record's row, on a refusal nothing is written.
+pub fn filling_sizes(sizes: &[u8; 16], n: usize, m: usize, filling: &mut [u32; 16]) -> u32
+    ensures { λ r. ⌜ FillingOf (now (sizes .entry)) n m (now (filling .entry)) r (now (filling .exit)) ⌝ }
+{
+    let refusal = refusal_of(sizes, n, m);
+    if refusal != 0 {
+        return refusal;
+    }
+    fill(filling, m as u32, sizes, n);
+    0
 }
 
 // Whether the record is bit for bit one that an accepted layout gives (refusal 9's test).

@@ -5,14 +5,20 @@ ghost use lib.ListN.{take};
 ghost use lib.Dec.{ltb, eqb};
 ghost use Rattle.lists.specs.Lists.{every, product};
 ghost use Rattle.layout.specs.Layout.{limit, common};
+ghost use Rattle.layout.specs.Tested.{Sixteen};
 
 // The largest total that is accepted.
 pub(crate) const LIMIT: u64 = 4294967295;
 
+// An array by value is sixteen bytes, which nothing says of one behind a reference.
+pub(crate) fn sixteen(sizes: [u8; 16])
+    ensures { λ r. ⌜ Sixteen sizes ⌝ }
+{}
+
 // Whether each of the first n sizes is above 0.
-pub(crate) fn above_zero(sizes: [u8; 16], n: usize) -> bool
-    requires { ⌜ n ≤ 16 ⌝ }
-    ensures { λ r. ⌜ r ≡ every (ltb 0) (take n sizes) ⌝ }
+pub(crate) fn above_zero(sizes: &[u8; 16], n: usize) -> bool
+    requires { ⌜ (n ≤ 16) × (Sixteen (now sizes)) ⌝ }
+    ensures { λ r. ⌜ r ≡ every (ltb 0) (take n (now (sizes .entry))) ⌝ }
 {
     let mut i: usize = 0;
     while i < n {
@@ -25,9 +31,9 @@ pub(crate) fn above_zero(sizes: [u8; 16], n: usize) -> bool
 }
 
 // Whether each of the first n sizes is the first.
-pub(crate) fn equal(sizes: [u8; 16], n: usize) -> bool
-    requires { ⌜ n ≤ 16 ⌝ }
-    ensures { λ r. ⌜ r ≡ every (eqb (common (take n sizes))) (take n sizes) ⌝ }
+pub(crate) fn equal(sizes: &[u8; 16], n: usize) -> bool
+    requires { ⌜ (n ≤ 16) × (Sixteen (now sizes)) ⌝ }
+    ensures { λ r. ⌜ r ≡ every (eqb (common (take n (now (sizes .entry))))) (take n (now (sizes .entry))) ⌝ }
 {
     let mut i: usize = 0;
     while i < n {
@@ -40,9 +46,9 @@ pub(crate) fn equal(sizes: [u8; 16], n: usize) -> bool
 }
 
 // m times the first n sizes, or LIMIT + 1 where that is above LIMIT: no product on the way overflows.
-pub(crate) fn capped(sizes: [u8; 16], n: usize, m: u64) -> u64
-    requires { ⌜ (n ≤ 16) × (m ≤ limit) ⌝ }
-    ensures { λ r. ⌜ r ≡ min (product (take n sizes) * m) (limit + 1) ⌝ }
+pub(crate) fn capped(sizes: &[u8; 16], n: usize, m: u64) -> u64
+    requires { ⌜ (n ≤ 16) × (Sixteen (now sizes)) × (m ≤ limit) ⌝ }
+    ensures { λ r. ⌜ r ≡ min (product (take n (now (sizes .entry))) * m) (limit + 1) ⌝ }
 {
     let mut t = m;
     let mut i: usize = 0;

@@ -67,7 +67,19 @@ unfolding written
 written-same f g zero old h = refl
 written-same f g (suc m) old h = rw (written-same f g m old (λ k l. h k (omega arith)), h m (omega arith))
 
+-- what is written over is not seen
+pub written-over : {A : Type 0} (f g : ℕ → A) (m : ℕ) (old : List A) (d : A) → m ≤ length old → written g m (written f m old) ≡ written g m old
+written-over f g m old d l =
+    written-is g m old (written g m (written f m old)) d l (length-written g m (written f m old) ∙ length-written f m old)
+    (λ k low. written-at g m (written f m old) k d low (omega (arith, length-written f m old)))
+    (λ k high. written-past g m (written f m old) k d high ∙ written-past f m old k d high)
+
 -- on a refusal the length is kept too
 pub length-left : {A : Type 0} (r : ℕ) (f : ℕ → A) (m : ℕ) (old : List A) → length (left r f m old) ≡ length old
 length-left zero f m old = length-written f m old
 length-left (suc r) f m old = refl
+
+-- a call that gave the refusal r, which is the number k, leaves the old list
+pub unwritten : {A : Type 0} {r : ℕ} (k : ℕ) (f : ℕ → A) (m : ℕ) (old : List A) → (r ≡ 0 → ⊥) → r ≡ k → old ≡ left k f m old
+unwritten zero f m old refused number = absurd (refused number)
+unwritten (suc k) f m old refused number = refl

@@ -12,7 +12,7 @@ use lib.Pow.{areBytes}
 use lib.Ieee.Fits.{and-l, and-r}
 use lib.ListN.{length, getD, take, drop, set, replicate, replicate-append-replicate}
 use lib.Seq.{length-take-le, getD-take, take-suc}
-use borrow.Author.Tests.{ltb-true, eqb-true}
+use borrow.Author.Tests.{ltb-true, eqb-true, lt-ltb}
 use Rattle.lists.specs.Lists.{tabulate, every, product}
 
 -- ---- tabulate
@@ -127,6 +127,11 @@ pub bytes-at : (xs : List ℕ) → T (areBytes xs) → (i : ℕ) → getD xs i 0
 bytes-at [] t i = omega arith
 bytes-at (x ∷ xs) t zero = ltb→lt x 256 (and-l (ltb x 256) (areBytes xs) t)
 bytes-at (x ∷ xs) t (suc i) = bytes-at xs (and-r (ltb x 256) (areBytes xs) t) i
+
+-- and a list whose entries are bytes is one of bytes
+pub are-bytes : (xs : List ℕ) → ((i : ℕ) → getD xs i 0 < 256) → T (areBytes xs)
+are-bytes [] each = tt
+are-bytes (x ∷ xs) each = simp (lt-ltb x 256 (each 0)) (are-bytes xs (λ i. each (suc i)))
 
 -- every element is g: the list repeats it
 pub all-are : (g : ℕ) (xs : List ℕ) → every (eqb g) xs ≡ true → xs ≡ replicate (length xs) g

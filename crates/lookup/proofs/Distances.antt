@@ -8,12 +8,10 @@ use lib.Ieee.{Float, nan}
 use lib.ListN.{length, getD}
 use Rattle.binary32.specs.Blend.{lerp}
 use Rattle.cell.specs.declared.Cell.{Cell}
-use Rattle.layout.specs.declared.MultidimensionalLut.{MultidimensionalLut}
 use Rattle.layout.specs.Order.{index}
-use Rattle.layout.specs.Layout.{inkSizes}
 use Rattle.lookup.specs.Lookup.{Grid, part, lookup}
-use Rattle.lookup.specs.Table.{output, cells, answerAt}
-use Rattle.lookup.specs.Places.{sum, within, strides, distances, scaled, answer}
+use Rattle.lookup.specs.Table.{cells}
+use Rattle.lookup.specs.Places.{sum, within, strides, distances, scaled, answer, answerIn}
 
 regroup : (k m g r : ℕ) → k * m + r * (m * g) ≡ (k + g * r) * m
 regroup k m g r = ap (λ (n : ℕ). k * m + n) (mul-comm r (m * g) ∙ mul-assoc m g r ∙ mul-comm m (g * r)) ∙ sym (add-mul k (g * r) m)
@@ -51,13 +49,7 @@ as-many m [] xs = refl
 as-many m (g ∷ gs) xs = ap suc (as-many (m * g) gs xs)
 
 -- cells that are held as distances give the answers of the table
-pub answers-law : (lut : MultidimensionalLut) (table xs : List Float) (cs : List Cell) → cs ≡ scaled (strides (lut .«output_inks») (inkSizes lut)) (cells (inkSizes lut) xs)
-    → answer table cs ≡ answerAt lut table xs
-unfolding answerAt
-answers-law lut table xs cs e =
-    let m = lut .«output_inks» in
-    let sizes = inkSizes lut in
-    fun-ext (λ o.
-    ap (lookup (within table o)) e
-    ∙ lookup-scaled (strides m sizes) (cells sizes xs) (as-many m sizes xs) (within table o)
-    ∙ ap (λ (f : Grid). lookup f (cells sizes xs)) (fun-ext (λ ks. ap (λ (n : ℕ). getD table (n + o) nan) (ordered m sizes ks))))
+pub answers-law : (gs : List ℕ) (m : ℕ) (table xs : List Float) (o : ℕ) → answer table (scaled (strides m gs) (cells gs xs)) o ≡ answerIn gs m table xs o
+answers-law gs m table xs o =
+    lookup-scaled (strides m gs) (cells gs xs) (as-many m gs xs) (within table o)
+    ∙ ap (λ (f : Grid). lookup f (cells gs xs)) (fun-ext (λ ks. ap (λ (n : ℕ). getD table (n + o) nan) (ordered m gs ks)))

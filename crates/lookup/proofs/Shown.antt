@@ -14,7 +14,7 @@ use Rattle.layout.specs.Order.{index}
 use Rattle.layout.proofs.Laws.{outputs-from}
 use Rattle.layout.proofs.Order.{in-grid-within, entries-within}
 use Rattle.lookup.specs.Node.{nodeRefusal, nodeEntries, NodeRefused, NodeShown}
-use Rattle.lookup.proofs.Refusals.{node-passed, node-inside}
+use Rattle.lookup.proofs.Refusals.{node-passed, node-layout, node-inside}
 
 module _ (lut : MultidimensionalLut) (table : List Float) (coordinates : List ℕ) where
   nothing : (r : ℕ) → (r ≡ 0 → ⊥) → nodeEntries r lut table coordinates ≡ []
@@ -67,6 +67,6 @@ module _ (lut : MultidimensionalLut) (table : List Float) (coordinates : List �
         holds .entries
         ∙ ap (λ (b : Bool). nodeEntries (nodeRefusal b lut (length table) coordinates) lut table coordinates) (decided (holds .laid) (refused .laid) (holds .decides) (refused .decides))
         ∙ ap (λ (k : ℕ). nodeEntries k lut table coordinates) (sym (refused .number)) in (
-          (λ none z. let m = outputs-from lut (node-passed lut table coordinates r refused z .is) in omega (arith, ap length same, long z)),
+          (λ none z. let m = outputs-from lut (node-layout lut table coordinates r refused z) in omega (arith, ap length same, long z)),
           (λ some. ap length same ∙ ap length (nothing r some)),
         )

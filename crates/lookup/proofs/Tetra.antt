@@ -10,7 +10,7 @@ use Rattle.binary32.specs.Blend.{six}
 use Rattle.binary32.specs.Range.{Below}
 use Rattle.cell.specs.declared.Cell.{Cell}
 use Rattle.lookup.specs.Lookup.{node, lookup}
-use Rattle.lookup.specs.Places.{within, cellAt, cellsAt, reach, corner, planBy, planOf, planned, Plans, Weighed}
+use Rattle.lookup.specs.Places.{within, reach, corner, planBy, planOf, planned, Plans}
 use Rattle.lookup.proofs.Weights.{le-through, le-fails}
 
 -- ---- the code's choices are a cell's nodes
@@ -76,7 +76,7 @@ module _ (cx cy cz : Cell) where
 
 module _ (at : Bool → Bool → Bool → ℕ) (part : List Float) (o : ℕ) (x y z : Float) where
   six-cases : (xy yz xz : Bool) → (xy ≡ true → yz ≡ true → xz ≡ true) → (xy ≡ false → yz ≡ false → xz ≡ false)
-      → planned part o x y z (planBy at xy yz xz) ≡ six (λ i j k. getD part (at i j k + o) nan) x y z xy yz xz
+      → planned (planBy at xy yz xz) (x ∷ y ∷ z ∷ []) o part ≡ six (λ i j k. getD part (at i j k + o) nan) x y z xy yz xz
   six-cases true true true p q = refl
   six-cases true true false p q = let never : false ≡ true = p refl refl in absurd (let z : _≡_ {A = ℕ} 0 1 = cc in omega arith)
   six-cases true false true p q = refl
@@ -91,20 +91,18 @@ stands : (part : List Float) (o : ℕ) (cx cy cz : Cell)
     → _≡_ {A = Bool → Bool → Bool → Float} (λ i j k. getD part (corner cx cy cz i j k + o) nan) (λ i j k. within part o (node cz k ∷ node cy j ∷ node cx i ∷ []))
 stands part o cx cy cz = fun-ext λ i. fun-ext λ j. fun-ext λ k. ap (λ (n : ℕ). getD part (n + o) nan) (omega arith)
 
-pub plans : (low high : List ℕ) (w : List Float) → Weighed w 3 → Plans low high w (planOf (cellAt low high w 0) (cellAt low high w 1) (cellAt low high w 2))
-unfolding lookup
-plans low high w few =
-    let cx = cellAt low high w 0 in
-    let cy = cellAt low high w 1 in
-    let cz = cellAt low high w 2 in
-    let xy = le (cy .w) (cx .w) in
-    let yz = le (cz .w) (cy .w) in
-    let xz = le (cz .w) (cx .w) in
-    record {
-      reached = plan-reach cx cy cz xy yz xz;
-      answers = λ part o.
-          six-cases (corner cx cy cz) part o (cx .w) (cy .w) (cz .w) xy yz xz
-          (λ p q. le-through (cz .w) (cy .w) (few 2 (omega arith)) (few 1 (omega arith)) (cx .w) (few 0 (omega arith)) q p)
-          (λ p q. le-fails (cx .w) (cy .w) (cz .w) (few 0 (omega arith)) (few 1 (omega arith)) (few 2 (omega arith)) p q)
-          ∙ ap (λ (c : Bool → Bool → Bool → Float). six c (cx .w) (cy .w) (cz .w) xy yz xz) (stands part o cx cy cz);
-    }
+module _ (cx cy cz : Cell) where
+  pub plans : Below 1 (cx .w) → Below 1 (cy .w) → Below 1 (cz .w) → Plans cx cy cz (planOf cx cy cz)
+  unfolding lookup
+  plans X Y Z =
+      let xy = le (cy .w) (cx .w) in
+      let yz = le (cz .w) (cy .w) in
+      let xz = le (cz .w) (cx .w) in
+      record {
+        reached = plan-reach cx cy cz xy yz xz;
+        answers = λ part o.
+            six-cases (corner cx cy cz) part o (cx .w) (cy .w) (cz .w) xy yz xz
+            (λ p q. le-through (cz .w) (cy .w) Z Y (cx .w) X q p)
+            (λ p q. le-fails (cx .w) (cy .w) (cz .w) X Y Z p q)
+            ∙ ap (λ (c : Bool → Bool → Bool → Float). six c (cx .w) (cy .w) (cz .w) xy yz xz) (stands part o cx cy cz);
+      }

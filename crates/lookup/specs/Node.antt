@@ -6,7 +6,7 @@ use mathlib.Core.List.{List, [], reverse}
 use lib.Dec.{ltb, eqb}
 use lib.Ieee.{Float}
 use lib.ListN.{length, take, drop}
-use Rattle.outcome.specs.Outcome.{Decides}
+use Rattle.outcome.specs.Outcome.{Decides, onDone}
 use Rattle.layout.specs.declared.MultidimensionalLut.{MultidimensionalLut}
 use Rattle.layout.specs.Order.{index, inGrid}
 use Rattle.layout.specs.Layout.{IsLayout, inkSizes, entries}
@@ -30,6 +30,12 @@ pub record NodeRefused (lut : MultidimensionalLut) (table : List Float) (coordin
   pub laid : Bool
   pub decides : Decides laid (IsLayout lut)
   pub number : r ≡ nodeRefusal laid lut (length table) coordinates
+
+-- what `node_offset` owes: where the first of those entries stands in the table, and 0 on a refusal
+pub record NodePlaced (lut : MultidimensionalLut) (table : List Float) (coordinates : List ℕ) (first : ℕ) : Type 0 where
+  pub laid : Bool
+  pub decides : Decides laid (IsLayout lut)
+  pub offset : first ≡ onDone (nodeRefusal laid lut (length table) coordinates) (index (inkSizes lut) (reverse coordinates) * lut .«output_inks») 0
 
 -- what `node` owes: the entries of the part that it hands back
 pub record NodeShown (lut : MultidimensionalLut) (table : List Float) (coordinates : List ℕ) (shown : List Float) : Type 0 where

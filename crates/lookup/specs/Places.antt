@@ -5,14 +5,17 @@ use mathlib.Core.Bool.{Bool, true, false, not, cond}
 use mathlib.Core.List.{List, [], _∷_}
 use lib.Dec.{ltb, eqb}
 use lib.Ieee.{Float, nan, le}
-use lib.ListN.{length, getD}
+use lib.ListN.{length, getD, drop, replicate}
 use Rattle.outcome.specs.Outcome.{Decides}
-use Rattle.binary32.specs.Blend.{terms, rise}
-use Rattle.binary32.specs.Range.{Below}
+use Rattle.binary32.specs.Blend.{lerp, terms, rise}
+use Rattle.lists.specs.Lists.{product}
+use Rattle.lists.specs.Buffer.{left}
 use Rattle.cell.specs.declared.Cell.{Cell}
 use Rattle.layout.specs.declared.MultidimensionalLut.{MultidimensionalLut}
+use Rattle.layout.specs.Order.{index, Steps}
 use Rattle.layout.specs.Layout.{IsLayout, entries}
 use Rattle.lookup.specs.Lookup.{Grid, node, lookup}
+use Rattle.lookup.specs.Table.{inkCell, cells}
 
 -- the sum of a list of distances
 abbrev pub sum : List ℕ → ℕ
@@ -78,41 +81,77 @@ corner cx cy cz i j k = node cx i + node cy j + node cz k
 abbrev pub planOf : Cell → Cell → Cell → List ℕ
 planOf cx cy cz = planBy (corner cx cy cz) (le (cy .w) (cx .w)) (le (cz .w) (cy .w)) (le (cz .w) (cx .w))
 
--- what a plan gives at output o in a part of the table: c0, and the three terms
-abbrev pub planned : List Float → ℕ → Float → Float → Float → List ℕ → Float
-planned part o rx ry rz p =
+-- what a plan gives at output o in a part of the table, with the weights r of ink 1, 2 and 3: c0, and the three terms
+abbrev pub planned : List ℕ → List Float → ℕ → List Float → Float
+planned p r o part =
     let at : ℕ → Float = λ k. getD part (getD p k 0 + o) nan in
-    terms (at 0) (rise (at 2) (at 1)) (rise (at 4) (at 3)) (rise (at 6) (at 5)) rx ry rz
+    terms (at 0) (rise (at 2) (at 1)) (rise (at 4) (at 3)) (rise (at 6) (at 5)) (getD r 0 nan) (getD r 1 nan) (getD r 2 nan)
 
--- each entry of a plan leaves room for m outputs in a part of n entries
+-- each entry of a plan leaves room for m more in a part of n entries
 abbrev pub Inside : List ℕ → ℕ → ℕ → Type 0
 Inside p m n = (k : ℕ) → getD p k 0 + m ≤ n
 
--- p serves as the plan of the first three inks, in every part
-pub record Plans (low high : List ℕ) (w : List Float) (p : List ℕ) : Type 0 where
-  pub reached : (k : ℕ) → getD p k 0 ≤ reach (cellsAt low high w 3)
-  pub answers : (part : List Float) (o : ℕ) → planned part o (getD w 0 nan) (getD w 1 nan) (getD w 2 nan) p ≡ lookup (within part o) (cellsAt low high w 3)
+-- p serves as the plan of the cells of ink 1, 2 and 3, in every part
+pub record Plans (cx cy cz : Cell) (p : List ℕ) : Type 0 where
+  pub reached : (k : ℕ) → getD p k 0 ≤ reach (cz ∷ cy ∷ cx ∷ [])
+  pub answers : (part : List Float) (o : ℕ) → planned p (cx .w ∷ cy .w ∷ cz .w ∷ []) o part ≡ lookup (within part o) (cz ∷ cy ∷ cx ∷ [])
 
--- the weights of the first n inks are numbers from 0 up and below 1
-abbrev pub Weighed : List Float → ℕ → Type 0
-Weighed w n = (j : ℕ) → j < n → Below 1 (getD w j nan)
+-- further inks, last ink first, above what `three` gives in a part of the table: along the last one, between the parts at its nodes
+abbrev pub above : (List Float → Float) → List Cell → List Float → Float
+above three [] part = three part
+above three (h ∷ hs) part = lerp (above three hs (drop (h .x) part)) (above three hs (drop (h .«x_n») part)) (h .w)
 
 -- the answer at output o of cells in a part of the table
 abbrev pub answer : List Float → List Cell → ℕ → Float
 answer part cs o = lookup (within part o) cs
 
--- what a blend leaves in its buffer, which was `old`: its first m entries are the answers
-pub record Blended (part : List Float) (cs : List Cell) (m : ℕ) (old now : List Float) : Type 0 where
-  pub room : length now ≡ length old
-  pub answers : (o : ℕ) → o < m → getD now o nan ≡ answer part cs o
+-- ---- a grid of g lines for each ink, with its filling sizes
 
--- the refusals that lookups and the node reader share, 9, 6 and 7, before others
+-- ink i, counted from 0; the first n inks, last ink first; and the k inks from the fourth on
+abbrev pub placedInk : List ℕ → ℕ → List Float → ℕ → Cell
+placedInk filling g xs i = scale (getD filling i 0) (inkCell i g (getD xs i nan))
+
+abbrev pub firstInks : List ℕ → ℕ → List Float → ℕ → List Cell
+firstInks filling g xs zero = []
+firstInks filling g xs (suc i) = placedInk filling g xs i ∷ firstInks filling g xs i
+
+abbrev pub furtherInks : List ℕ → ℕ → List Float → ℕ → List Cell
+furtherInks filling g xs zero = []
+furtherInks filling g xs (suc i) = placedInk filling g xs (suc (suc (suc i))) ∷ furtherInks filling g xs i
+
+-- the filling sizes of the first n inks are of 32 bits
+abbrev pub Narrow : List ℕ → ℕ → Type 0
+Narrow filling n = (i : ℕ) → i < n → getD filling i 0 < 4_294_967_296
+
+-- what an accepted layout of n inks and m outputs promises of them
+pub record Laid (filling : List ℕ) (g n m : ℕ) : Type 0 where
+  pub inks-from : 1 ≤ n
+  pub inks-to : n ≤ 15
+  pub outputs-to : m ≤ 15
+  pub size-from : 1 ≤ g
+  pub narrow : Narrow filling n
+  pub steps : Steps filling (replicate n g) m
+  pub whole : getD filling 0 0 * g ≡ product (replicate n g) * m
+
+-- the answer at output o in a table of the sizes gs, last ink first, with m outputs
+abbrev pub answerIn : List ℕ → ℕ → List Float → List Float → ℕ → Float
+answerIn gs m table xs o = lookup (λ ks. getD table (index gs ks * m + o) nan) (cells gs xs)
+
+-- 6 a short table and 7 the number of inputs or coordinates, before others
+abbrev pub tested : ℕ → ℕ → ℕ → ℕ → ℕ → ℕ
+tested total n table given others =
+    cond (ltb table total) 6
+    (cond (not (eqb given n)) 7
+    others)
+
+-- what is owed after an accepted layout: the number r, and the answer buffer afterwards, `now`, which was `old`
+pub record Answered (gs : List ℕ) (n m : ℕ) (table inputs old : List Float) (r : ℕ) (now : List Float) : Type 0 where
+  pub number : r ≡ tested (product gs * m) n (length table) (length inputs) (cond (ltb (length old) m) 8 0)
+  pub entries : now ≡ left r (answerIn gs m table inputs) m old
+
+-- the refusals that come first for the node reader, 9, 6 and 7, before others
 abbrev pub checks : Bool → MultidimensionalLut → ℕ → ℕ → ℕ → ℕ
-checks laid lut table given others =
-    cond (not laid) 9
-    (cond (ltb table (entries lut)) 6
-    (cond (not (eqb given (lut .«input_inks»))) 7
-    others))
+checks laid lut table given others = cond (not laid) 9 (tested (entries lut) (lut .«input_inks») table given others)
 
 pub record Checked (lut : MultidimensionalLut) (table given : ℕ) (r : ℕ) : Type 0 where
   pub laid : Bool

@@ -1,18 +1,18 @@
 -- A lookup in a table: the cells of the inputs, the answer at each output, what is refused, and what a call leaves in the answer buffer. Definitions only.
 use Prim.Native.Nat.{ℕ, _+_, _*_}
 use mathlib.Core.Path.{_≡_}
-use mathlib.Core.Bool.{Bool, cond, not}
+use mathlib.Core.Bool.{Bool, true, cond, not}
 use mathlib.Core.List.{List, [], _∷_}
 use lib.Dec.{ltb, eqb}
 use lib.Ieee.{Float, nan}
 use lib.ListN.{length, getD}
-use Rattle.outcome.specs.Outcome.{Decides}
+use Rattle.outcome.specs.Outcome.{Decides, orElse}
 use Rattle.lists.specs.Buffer.{left}
 use Rattle.cell.specs.declared.Cell.{Cell}
 use Rattle.cell.specs.Rule.{cellLow, cellHigh}
 use Rattle.layout.specs.declared.MultidimensionalLut.{MultidimensionalLut}
 use Rattle.layout.specs.Order.{index}
-use Rattle.layout.specs.Layout.{IsLayout, inkSizes, entries}
+use Rattle.layout.specs.Layout.{laidOf, IsLayout, inkSizes, entries}
 use Rattle.lookup.specs.Lookup.{Grid, lookup}
 
 -- output o of each node: a node's m outputs stand together, in ICC.1's order of the nodes
@@ -47,3 +47,12 @@ pub record Looked (lut : MultidimensionalLut) (table inputs old : List Float) (r
   pub decides : Decides laid (IsLayout lut)
   pub number : r ≡ refusal laid lut (length table) (length inputs) (length old)
   pub entries : now ≡ left r (answerAt lut table inputs) (lut .«output_inks») old
+
+-- laid out by sizes and counts: 1 to 5, then 6, 7, 8. An accepted layout's record is a layout's, `true`: no 9 is given
+abbrev pub refusalBySizes : List ℕ → ℕ → ℕ → ℕ → ℕ → ℕ → ℕ
+refusalBySizes sizes n m table inputs room = orElse (laidOf sizes n m .refusal) (refusal true (laidOf sizes n m .lut) table inputs room)
+
+-- what a lookup by sizes owes
+pub record LookedBySizes (sizes : List ℕ) (n m : ℕ) (table inputs old : List Float) (r : ℕ) (now : List Float) : Type 0 where
+  pub number : r ≡ refusalBySizes sizes n m (length table) (length inputs) (length old)
+  pub entries : now ≡ left (refusalBySizes sizes n m (length table) (length inputs) (length old)) (answerAt (laidOf sizes n m .lut) table inputs) m old

@@ -1,119 +1,106 @@
 // The answers of four and more inks, all m outputs at a time.
 use crate::few;
-use crate::plan;
+use crate::place;
 ghost use mathlib.Core.Path.{_≡_};
-ghost use Prim.Native.Nat.{_+_, _-_, _*_, _≤_, _<_};
+ghost use Prim.Native.Nat.{_+_, _-_, _≤_, max};
 ghost use lib.Ieee.{nan};
-ghost use lib.ListN.{length, getD};
+ghost use lib.ListN.{length, getD, drop};
 ghost use Rattle.binary32.specs.Blend.{lerp};
 ghost use Rattle.lists.specs.Buffer.{written};
-ghost use Rattle.lookup.specs.Places.{cellsAt, reach, answer, Plans, Blended, Weighed};
+ghost use Rattle.lookup.specs.Places.{cellsAt, furtherInks, reach, planned, above, Inside, Narrow};
 
-// Entry o becomes the value between it and entry m + o.
-fn fold(work: &mut [f32], m: usize, t: f32)
-    requires { ⌜ m + m ≤ length (now work) ⌝ }
-    ensures { λ _. ⌜ now (work .exit) ≡ written (λ o. lerp (getD (now (work .entry)) o nan) (getD (now (work .entry)) (m + o) nan) t) m (now (work .entry)) ⌝ }
+// Each of the first m answers becomes the value between it and the upper one.
+fn fold(out: &mut [f32], upper: &[f32], m: usize, t: f32)
+    requires { ⌜ (m ≤ length (now out)) × (m ≤ length (now upper)) ⌝ }
+    ensures { λ _. ⌜ now (out .exit) ≡ written (λ o. lerp (getD (now (out .entry)) o nan) (getD (now (upper .entry)) o nan) t) m (now (out .entry)) ⌝ }
 {
     let mut o = 0;
     while o < m {
-        work[o] = binary32::lerp(work[o], work[m + o], t);
+        out[o] = binary32::lerp(out[o], upper[o], t);
         o += 1;
     }
 }
 
-// The answers of n inks from a part of the table: along the last ink between the answers of one ink
-// fewer, in the parts that start at its lower and its upper node. The upper answers stand after the
-// lower ones in `work`.
+// Four inks: along ink 4 between the answers of three, in the parts that start at its nodes a and b.
+fn four(
+    part: &[f32],
+    plan: &[usize; 7],
+    r: &[f32; 3],
+    a: usize,
+    b: usize,
+    t: f32,
+    m: usize,
+    out: &mut [f32],
+)
+    requires count { ⌜ m ≤ 15 ⌝ }
+    requires inside { ⌜ Inside (now plan) (max a b + m) (length (now part)) ⌝ }
+    requires room { ⌜ m ≤ length (now out) ⌝ }
+    ensures { λ _. ⌜ now (out .exit) ≡ written (λ o. lerp (planned (now (plan .entry)) (now (r .entry)) o (drop a (now (part .entry)))) (planned (now (plan .entry)) (now (r .entry)) o (drop b (now (part .entry)))) t) m (now (out .entry)) ⌝ }
+{
+    let mut upper = [0.0f32; 15];
+    few::three(&part[a..], plan, r, m, out);
+    few::three(&part[b..], plan, r, m, &mut upper);
+    fold(out, &upper, m, t);
+}
+
+// The answers of k inks more than three from a part of the table: along the last ink between the answers of one ink
+// fewer, in the parts that start at its lower and its upper node.
 fn blend(
     part: &[f32],
-    low: &[usize; 15],
-    high: &[usize; 15],
-    w: &[f32; 15],
-    n: usize,
-    m: usize,
     plan: &[usize; 7],
-    work: &mut [f32],
+    r: &[f32; 3],
+    low: &[usize; 12],
+    high: &[usize; 12],
+    w: &[f32; 12],
+    k: usize,
+    m: usize,
+    out: &mut [f32],
 )
-    requires count { ⌜ (3 ≤ n) × (n ≤ 15) ⌝ }
-    requires reach { ⌜ reach (cellsAt (now low) (now high) (now w) n) + m ≤ length (now part) ⌝ }
-    requires plan { ⌜ Plans (now low) (now high) (now w) (now plan) ⌝ }
-    requires room { ⌜ m * (n - 2) ≤ length (now work) ⌝ }
-    ensures { λ _. ⌜ Blended (now (part .entry)) (cellsAt (now (low .entry)) (now (high .entry)) (now (w .entry)) n) m (now (work .entry)) (now (work .exit)) ⌝ }
+    requires count { ⌜ (1 ≤ k) × (k ≤ 12) × (m ≤ 15) ⌝ }
+    requires inside { ⌜ Inside (now plan) (reach (cellsAt (now low) (now high) (now w) k) + m) (length (now part)) ⌝ }
+    requires room { ⌜ m ≤ length (now out) ⌝ }
+    ensures { λ _. ⌜ now (out .exit) ≡ written (λ o. above (planned (now (plan .entry)) (now (r .entry)) o) (cellsAt (now (low .entry)) (now (high .entry)) (now (w .entry)) k) (now (part .entry))) m (now (out .entry)) ⌝ }
 {
-    if n == 3 {
-        few::three(part, plan, w[0], w[1], w[2], m, work);
-        return;
-    }
-    let i = n - 1;
+    let i = k - 1;
     let a = low[i];
     let b = high[i];
-    blend(&part[a..], low, high, w, i, m, plan, work);
-    blend(&part[b..], low, high, w, i, m, plan, &mut work[m..]);
-    fold(work, m, w[i]);
-}
-
-// The first m entries of `work` into `answer`.
-fn copy(work: &[f32], m: usize, answer: &mut [f32])
-    requires { ⌜ (m ≤ length (now work)) × (m ≤ length (now answer)) ⌝ }
-    ensures { λ _. ⌜ now (answer .exit) ≡ written (λ o. getD (now (work .entry)) o nan) m (now (answer .entry)) ⌝ }
-{
-    let mut o = 0;
-    while o < m {
-        answer[o] = work[o];
-        o += 1;
+    let t = w[i];
+    if i == 0 {
+        four(part, plan, r, a, b, t, m, out);
+        return;
     }
+    let mut upper = [0.0f32; 15];
+    blend(&part[a..], plan, r, low, high, w, i, m, out);
+    blend(&part[b..], plan, r, low, high, w, i, m, &mut upper);
+    fold(out, &upper, m, t);
 }
 
-// Four and more inks. The room serves 15 outputs on 13 levels.
-pub(crate) fn many(
+// Four and more inks, from the plan and the weights of the first three.
+pub(crate) fn more(
     table: &[f32],
-    low: &[usize; 15],
-    high: &[usize; 15],
-    w: &[f32; 15],
-    n: usize,
-    m: usize,
     plan: &[usize; 7],
-    out: &mut [f32],
-)
-    requires count { ⌜ (3 ≤ n) × (n ≤ 15) × (m ≤ 15) ⌝ }
-    requires reach { ⌜ reach (cellsAt (now low) (now high) (now w) n) + m ≤ length (now table) ⌝ }
-    requires plan { ⌜ Plans (now low) (now high) (now w) (now plan) ⌝ }
-    requires room { ⌜ m ≤ length (now out) ⌝ }
-    ensures { λ _. ⌜ now (out .exit) ≡ written (answer (now (table .entry)) (cellsAt (now (low .entry)) (now (high .entry)) (now (w .entry)) n)) m (now (out .entry)) ⌝ }
-{
-    let mut work = [0.0f32; 195];
-    blend(table, low, high, w, n, m, plan, &mut work);
-    copy(&work, m, out);
-}
-
-// The m answers of n inks.
-pub(crate) fn answers(
-    table: &[f32],
-    low: &[usize; 15],
-    high: &[usize; 15],
-    w: &[f32; 15],
-    n: usize,
+    r: &[f32; 3],
+    filling: &[u32; 16],
+    g: u8,
+    inputs: &[f32],
     m: usize,
     out: &mut [f32],
 )
-    requires count { ⌜ (1 ≤ n) × (n ≤ 15) × (m ≤ 15) ⌝ }
-    requires reach { ⌜ reach (cellsAt (now low) (now high) (now w) n) + m ≤ length (now table) ⌝ }
-    requires weights { ⌜ Weighed (now w) n ⌝ }
+    requires count { ⌜ (4 ≤ length (now inputs)) × (length (now inputs) ≤ 15) × (m ≤ 15) ⌝ }
+    requires { ⌜ Narrow (now filling) (length (now inputs)) ⌝ }
+    requires inside { ⌜ Inside (now plan) (reach (furtherInks (now filling) g (now inputs) (length (now inputs) - 3)) + m) (length (now table)) ⌝ }
     requires room { ⌜ m ≤ length (now out) ⌝ }
-    ensures { λ _. ⌜ now (out .exit) ≡ written (answer (now (table .entry)) (cellsAt (now (low .entry)) (now (high .entry)) (now (w .entry)) n)) m (now (out .entry)) ⌝ }
+    ensures { λ _. ⌜ now (out .exit) ≡ written (λ o. above (planned (now (plan .entry)) (now (r .entry)) o) (furtherInks (now (filling .entry)) g (now (inputs .entry)) (length (now (inputs .entry)) - 3)) (now (table .entry))) m (now (out .entry)) ⌝ }
 {
-    if n == 1 {
-        few::one(table, low[0], high[0], w[0], m, out);
+    let k = inputs.len() - 3;
+    if k == 1 {
+        let h = place::placed(filling, g, inputs, 3);
+        four(table, plan, r, h.x, h.x_n, h.w, m, out);
         return;
     }
-    if n == 2 {
-        few::two(table, low, high, w, m, out);
-        return;
-    }
-    let plan = plan::plan_of(low, high, w);
-    if n == 3 {
-        few::three(table, &plan, w[0], w[1], w[2], m, out);
-        return;
-    }
-    many(table, low, high, w, n, m, &plan, out);
+    let mut low = [0usize; 12];
+    let mut high = [0usize; 12];
+    let mut w = [0.0f32; 12];
+    place::place(filling, g, inputs, k, &mut low, &mut high, &mut w);
+    blend(table, plan, r, &low, &high, &w, k, m, out);
 }

@@ -1,11 +1,12 @@
 // The answers of one, two and three inks, all m outputs of each.
+use cell::Cell;
 ghost use mathlib.Core.Path.{_≡_};
+ghost use mathlib.Core.List.{[], _∷_};
 ghost use Prim.Native.Nat.{_+_, _≤_};
-ghost use lib.Ieee.{nan};
-ghost use lib.ListN.{length, getD};
+ghost use lib.ListN.{length};
 ghost use Rattle.binary32.specs.Blend.{along};
 ghost use Rattle.lists.specs.Buffer.{written};
-ghost use Rattle.lookup.specs.Places.{cellsAt, reach, answer, planned, Inside};
+ghost use Rattle.lookup.specs.Places.{reach, answer, planned, Inside};
 
 // a * (1 - w) + b * w, where 1 - w is rounded first.
 fn mix(a: f32, b: f32, w: f32) -> f32
@@ -14,12 +15,15 @@ fn mix(a: f32, b: f32, w: f32) -> f32
     a * (1.0 - w) + b * w
 }
 
-// One ink, whose nodes stand x and x_n entries from the part's start.
-pub(crate) fn one(part: &[f32], x: usize, x_n: usize, w: f32, m: usize, out: &mut [f32])
-    requires { ⌜ (x + m ≤ length (now part)) × («x_n» + m ≤ length (now part)) ⌝ }
+// One ink, with the nodes of its cell as distances in entries.
+pub(crate) fn one(part: &[f32], c: Cell, m: usize, out: &mut [f32])
+    requires { ⌜ reach (c ∷ []) + m ≤ length (now part) ⌝ }
     requires room { ⌜ m ≤ length (now out) ⌝ }
-    ensures { λ _. ⌜ now (out .exit) ≡ written (λ o. along (getD (now (part .entry)) (x + o) nan) (getD (now (part .entry)) («x_n» + o) nan) w) m (now (out .entry)) ⌝ }
+    ensures { λ _. ⌜ now (out .exit) ≡ written (answer (now (part .entry)) (c ∷ [])) m (now (out .entry)) ⌝ }
 {
+    let x = c.x;
+    let x_n = c.x_n;
+    let w = c.w;
     let mut o = 0;
     while o < m {
         out[o] = mix(part[x + o], part[x_n + o], w);
@@ -28,24 +32,17 @@ pub(crate) fn one(part: &[f32], x: usize, x_n: usize, w: f32, m: usize, out: &mu
 }
 
 // Two inks: along ink 1 at both nodes of ink 2, then along ink 2.
-pub(crate) fn two(
-    part: &[f32],
-    low: &[usize; 15],
-    high: &[usize; 15],
-    w: &[f32; 15],
-    m: usize,
-    out: &mut [f32],
-)
-    requires { ⌜ reach (cellsAt (now low) (now high) (now w) 2) + m ≤ length (now part) ⌝ }
+pub(crate) fn two(part: &[f32], c: Cell, d: Cell, m: usize, out: &mut [f32])
+    requires { ⌜ reach (d ∷ c ∷ []) + m ≤ length (now part) ⌝ }
     requires room { ⌜ m ≤ length (now out) ⌝ }
-    ensures { λ _. ⌜ now (out .exit) ≡ written (answer (now (part .entry)) (cellsAt (now (low .entry)) (now (high .entry)) (now (w .entry)) 2)) m (now (out .entry)) ⌝ }
+    ensures { λ _. ⌜ now (out .exit) ≡ written (answer (now (part .entry)) (d ∷ c ∷ [])) m (now (out .entry)) ⌝ }
 {
-    let x = low[0];
-    let x_n = high[0];
-    let y = low[1];
-    let y_n = high[1];
-    let v = w[0];
-    let t = w[1];
+    let x = c.x;
+    let x_n = c.x_n;
+    let v = c.w;
+    let y = d.x;
+    let y_n = d.x_n;
+    let t = d.w;
     let mut o = 0;
     while o < m {
         let below = mix(part[y + x + o], part[y + x_n + o], v);
@@ -55,20 +52,15 @@ pub(crate) fn two(
     }
 }
 
-// Three inks, with the weights rx, ry and rz: the tetrahedron of the plan.
-pub(crate) fn three(
-    part: &[f32],
-    plan: &[usize; 7],
-    rx: f32,
-    ry: f32,
-    rz: f32,
-    m: usize,
-    out: &mut [f32],
-)
+// Three inks, with their weights r: the tetrahedron of the plan.
+pub(crate) fn three(part: &[f32], plan: &[usize; 7], r: &[f32; 3], m: usize, out: &mut [f32])
     requires { ⌜ Inside (now plan) m (length (now part)) ⌝ }
     requires room { ⌜ m ≤ length (now out) ⌝ }
-    ensures { λ _. ⌜ now (out .exit) ≡ written (λ o. planned (now (part .entry)) o rx ry rz (now (plan .entry))) m (now (out .entry)) ⌝ }
+    ensures { λ _. ⌜ now (out .exit) ≡ written (λ o. planned (now (plan .entry)) (now (r .entry)) o (now (part .entry))) m (now (out .entry)) ⌝ }
 {
+    let rx = r[0];
+    let ry = r[1];
+    let rz = r[2];
     let c0 = plan[0];
     let p1 = plan[1];
     let q1 = plan[2];

@@ -6,45 +6,101 @@ mod nodes;
 mod place;
 mod plan;
 
+use layout::EntryOffset;
 use layout::MultidimensionalLut;
 ghost use mathlib.Core.Path.{_≡_};
-ghost use Prim.Native.Nat.{_≤_};
-ghost use lib.ListN.{length};
+ghost use Prim.Native.Nat.{_*_, _≤_};
+ghost use lib.ListN.{length, replicate};
+ghost use Rattle.lists.specs.Lists.{product};
 ghost use Rattle.lists.specs.Buffer.{written};
-ghost use Rattle.layout.specs.Layout.{IsLayout, entries};
-ghost use Rattle.lookup.specs.Node.{NodeRefused, NodeShown};
-ghost use Rattle.lookup.specs.Table.{answerAt, Looked};
+ghost use Rattle.lookup.specs.Node.{NodeRefused, NodePlaced, NodeShown};
+ghost use Rattle.lookup.specs.Places.{answerIn, Laid, Answered};
+ghost use Rattle.lookup.specs.Table.{Looked, LookedBySizes};
 
-// The answers of an accepted lookup.
-fn write(lut: MultidimensionalLut, table: &[f32], inputs: &[f32], answer: &mut [f32])
-    requires { ⌜ IsLayout lut ⌝ }
-    requires { ⌜ entries lut ≤ length (now table) ⌝ }
-    requires { ⌜ length (now inputs) ≡ lut .«input_inks» ⌝ }
-    requires { ⌜ lut .«output_inks» ≤ length (now answer) ⌝ }
-    ensures { λ _. ⌜ now (answer .exit) ≡ written (answerAt lut (now (table .entry)) (now (inputs .entry))) (lut .«output_inks») (now (answer .entry)) ⌝ }
+// The m answers, in a grid of g lines for each ink, whose filling sizes are lent.
+fn write(filling: &[u32; 16], g: u8, m: usize, table: &[f32], inputs: &[f32], answer: &mut [f32])
+    requires { ⌜ Laid (now filling) g (length (now inputs)) m ⌝ }
+    requires { ⌜ product (replicate (length (now inputs)) g) * m ≤ length (now table) ⌝ }
+    requires room { ⌜ m ≤ length (now answer) ⌝ }
+    ensures { λ _. ⌜ now (answer .exit) ≡ written (answerIn (replicate (length (now (inputs .entry))) g) m (now (table .entry)) (now (inputs .entry))) m (now (answer .entry)) ⌝ }
 {
-    let mut low = [0usize; 15];
-    let mut high = [0usize; 15];
-    let mut w = [0.0f32; 15];
-    let n = lut.input_inks;
-    let m = lut.output_inks;
-    place::place(lut, inputs, &mut low, &mut high, &mut w);
-    blend::answers(table, &low, &high, &w, n, m, answer);
+    let n = inputs.len();
+    let c = place::placed(filling, g, inputs, 0);
+    if n == 1 {
+        few::one(table, c, m, answer);
+        return;
+    }
+    let d = place::placed(filling, g, inputs, 1);
+    if n == 2 {
+        few::two(table, c, d, m, answer);
+        return;
+    }
+    let e = place::placed(filling, g, inputs, 2);
+    let plan = plan::plan_of(c, d, e);
+    let r = [c.w, d.w, e.w];
+    if n == 3 {
+        few::three(table, &plan, &r, m, answer);
+        return;
+    }
+    blend::more(table, &plan, &r, filling, g, inputs, m, answer);
+}
+
+// After an accepted layout: 6 a short table, 7 the number of inputs, 8 a short answer buffer, and on 0 the answers.
+fn answered(
+    filling: &[u32; 16],
+    g: u8,
+    n: usize,
+    m: usize,
+    table: &[f32],
+    inputs: &[f32],
+    answer: &mut [f32],
+) -> u32
+    requires { ⌜ Laid (now filling) g n m ⌝ }
+    ensures { λ r. ⌜ Answered (replicate n g) n m (now (table .entry)) (now (inputs .entry)) (now (answer .entry)) r (now (answer .exit)) ⌝ }
+{
+    let total = (filling[0] as u64) * (g as u64);
+    let refusal = check::sized(total, n, table.len(), inputs.len());
+    if refusal != 0 {
+        return refusal;
+    }
+    if answer.len() < m {
+        return 8;
+    }
+    write(filling, g, m, table, inputs, answer);
+    0
 }
 
 // The lookup: its number, and on 0 the m answers in the first entries of `answer`.
 pub fn lookup(lut: MultidimensionalLut, table: &[f32], inputs: &[f32], answer: &mut [f32]) -> u32
     ensures { λ r. ⌜ Looked lut (now (table .entry)) (now (inputs .entry)) (now (answer .entry)) r (now (answer .exit)) ⌝ }
 {
-    let refusal = check::refused(lut, table.len(), inputs.len());
+    if !layout::is_layout(lut) {
+        return 9;
+    }
+    let filling = lut.grid_filling_size;
+    let g = lut.grid_size;
+    let n = lut.input_inks;
+    let m = lut.output_inks;
+    answered(&filling, g, n, m, table, inputs, answer)
+}
+
+// Lays out, then looks up: 1 to 5, then 6, 7, 8. No record is made, so there is none to test.
+pub fn lookup_by_sizes(
+    sizes: &[u8; 16],
+    n: usize,
+    m: usize,
+    table: &[f32],
+    inputs: &[f32],
+    answer: &mut [f32],
+) -> u32
+    ensures { λ r. ⌜ LookedBySizes (now (sizes .entry)) n m (now (table .entry)) (now (inputs .entry)) (now (answer .entry)) r (now (answer .exit)) ⌝ }
+{
+    let mut filling = [1u32; 16];
+    let refusal = layout::filling_sizes(sizes, n, m, &mut filling);
     if refusal != 0 {
         return refusal;
     }
-    if answer.len() < lut.output_inks {
-        return 8;
-    }
-    write(lut, table, inputs, answer);
-    0
+    answered(&filling, sizes[0], n, m, table, inputs, answer)
 }
 
 // The number of a call of `node` on the same arguments.
@@ -60,6 +116,16 @@ pub fn node_refusal(lut: MultidimensionalLut, table: &[f32], coordinates: &[usiz
         return 10;
     }
     0
+}
+
+// The place of the node's first entry in the table; on a refusal 0.
+pub fn node_offset(lut: MultidimensionalLut, table: &[f32], coordinates: &[usize]) -> EntryOffset
+    ensures { λ r. ⌜ NodePlaced lut (now (table .entry)) (now (coordinates .entry)) (r .0) ⌝ }
+{
+    if node_refusal(lut, table, coordinates) != 0 {
+        return EntryOffset(0);
+    }
+    nodes::first_entry(lut, coordinates)
 }
 
 // The node's m entries, as the part of the table that holds them; on a refusal an empty part.

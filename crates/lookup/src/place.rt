@@ -1,11 +1,10 @@
-// The cells of all inks, with the distance in entries for each node.
+// The cells of the inks, with the distance in entries for each node.
 use cell::Cell;
-use layout::MultidimensionalLut;
 ghost use mathlib.Core.Path.{_≡_};
+ghost use Prim.Native.Nat.{_+_, _≤_, _<_};
 ghost use lib.ListN.{length};
-ghost use Rattle.layout.specs.Layout.{IsLayout, inkSizes};
-ghost use Rattle.lookup.specs.Table.{inkCell, cells};
-ghost use Rattle.lookup.specs.Places.{cellsAt, strides, scaled, Weighed};
+ghost use Rattle.lookup.specs.Table.{inkCell};
+ghost use Rattle.lookup.specs.Places.{placedInk, furtherInks, cellsAt, Narrow};
 
 // The cell of ink i, counted from 0: inks 1 to 4 take one rule, inks 5 and up the other.
 fn ink_cell(i: usize, x: f32, g: u8) -> Cell
@@ -17,29 +16,41 @@ fn ink_cell(i: usize, x: f32, g: u8) -> Cell
     cell::cell_high(x, g)
 }
 
-// Each ink's lower and upper node, as distances in entries, and its weight.
-pub(crate) fn place(
-    lut: MultidimensionalLut,
-    inputs: &[f32],
-    low: &mut [usize; 15],
-    high: &mut [usize; 15],
-    w: &mut [f32; 15],
-)
-    requires { ⌜ IsLayout lut ⌝ }
-    requires { ⌜ length (now inputs) ≡ lut .«input_inks» ⌝ }
-    requires room { ⌜ (length (now low) ≡ 15) × (length (now high) ≡ 15) × (length (now w) ≡ 15) ⌝ }
-    ensures { λ _. ⌜ cellsAt (now (low .exit)) (now (high .exit)) (now (w .exit)) (lut .«input_inks») ≡ scaled (strides (lut .«output_inks») (inkSizes lut)) (cells (inkSizes lut) (now (inputs .entry))) ⌝ }
-    ensures weights { λ _. ⌜ Weighed (now (w .exit)) (lut .«input_inks») ⌝ }
+// The cell of ink i, counted from 0, with its nodes as distances in entries.
+pub(crate) fn placed(filling: &[u32; 16], g: u8, inputs: &[f32], i: usize) -> Cell
+    requires { ⌜ (i < 16) × (i < length (now inputs)) ⌝ }
+    requires { ⌜ Narrow (now filling) (length (now inputs)) ⌝ }
+    ensures { λ r. ⌜ r ≡ placedInk (now (filling .entry)) g (now (inputs .entry)) i ⌝ }
 {
-    let filling = lut.grid_filling_size;
-    let g = lut.grid_size;
-    let n = lut.input_inks;
+    let c = ink_cell(i, inputs[i], g);
+    let s = filling[i] as usize;
+    Cell {
+        x: c.x * s,
+        x_n: c.x_n * s,
+        w: c.w,
+    }
+}
+
+// The cells of k inks from the fourth on: each one's lower and upper node, as distances in entries, and its weight.
+pub(crate) fn place(
+    filling: &[u32; 16],
+    g: u8,
+    inputs: &[f32],
+    k: usize,
+    low: &mut [usize; 12],
+    high: &mut [usize; 12],
+    w: &mut [f32; 12],
+)
+    requires { ⌜ (k ≤ 12) × (k + 3 ≤ length (now inputs)) ⌝ }
+    requires { ⌜ Narrow (now filling) (length (now inputs)) ⌝ }
+    requires room { ⌜ (length (now low) ≡ 12) × (length (now high) ≡ 12) × (length (now w) ≡ 12) ⌝ }
+    ensures { λ _. ⌜ cellsAt (now (low .exit)) (now (high .exit)) (now (w .exit)) k ≡ furtherInks (now (filling .entry)) g (now (inputs .entry)) k ⌝ }
+{
     let mut i = 0;
-    while i < n {
-        let c = ink_cell(i, inputs[i], g);
-        let s = filling[i] as usize;
-        low[i] = c.x * s;
-        high[i] = c.x_n * s;
+    while i < k {
+        let c = placed(filling, g, inputs, 3 + i);
+        low[i] = c.x;
+        high[i] = c.x_n;
         w[i] = c.w;
         i += 1;
     }

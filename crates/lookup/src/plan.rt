@@ -1,8 +1,11 @@
 // The plan of three inks: where the tetrahedron's entries stand.
+use cell::Cell;
 ghost use mathlib.Core.Path.{_≡_};
 ghost use mathlib.Core.Bool.{cond};
+ghost use mathlib.Core.List.{[], _∷_};
 ghost use Prim.Native.Nat.{_≤_, _<_, max};
-ghost use Rattle.lookup.specs.Places.{cellsAt, reach, Plans, Weighed};
+ghost use Rattle.binary32.specs.Range.{Below};
+ghost use Rattle.lookup.specs.Places.{reach, Plans};
 
 // a where the test holds, else b.
 fn pick(test: bool, a: usize, b: usize) -> usize
@@ -12,22 +15,22 @@ fn pick(test: bool, a: usize, b: usize) -> usize
     if test { a } else { b }
 }
 
-// The plan of the first three inks. Where an ink moves from its lower to its upper node, the inks
+// The plan of the cells of ink 1, 2 and 3. Where an ink moves from its lower to its upper node, the inks
 // of a larger weight have moved already, and an earlier ink of the same weight too.
-pub(crate) fn plan_of(low: &[usize; 15], high: &[usize; 15], w: &[f32; 15]) -> [usize; 7]
-    requires { ⌜ reach (cellsAt (now low) (now high) (now w) 3) < 18446744073709551616 ⌝ }
-    requires weights { ⌜ Weighed (now w) 3 ⌝ }
-    ensures { λ r. ⌜ Plans (now (low .entry)) (now (high .entry)) (now (w .entry)) r ⌝ }
+pub(crate) fn plan_of(cx: Cell, cy: Cell, cz: Cell) -> [usize; 7]
+    requires { ⌜ reach (cz ∷ cy ∷ cx ∷ []) < 18446744073709551616 ⌝ }
+    requires weights { ⌜ Below 1 (cx .w) × Below 1 (cy .w) × Below 1 (cz .w) ⌝ }
+    ensures { λ r. ⌜ Plans cx cy cz r ⌝ }
 {
-    let x = low[0];
-    let x_n = high[0];
-    let rx = w[0];
-    let y = low[1];
-    let y_n = high[1];
-    let ry = w[1];
-    let z = low[2];
-    let z_n = high[2];
-    let rz = w[2];
+    let x = cx.x;
+    let x_n = cx.x_n;
+    let rx = cx.w;
+    let y = cy.x;
+    let y_n = cy.x_n;
+    let ry = cy.w;
+    let z = cz.x;
+    let z_n = cz.x_n;
+    let rz = cz.w;
     let y1 = pick(rx >= ry, y, y_n);
     let z1 = pick(rx >= rz, z, z_n);
     let x2 = pick(rx >= ry, x_n, x);

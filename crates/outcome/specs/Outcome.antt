@@ -1,6 +1,7 @@
 -- That a function's statement leaves one outcome: its result, and what stands behind each lent `&mut` as it returns. A NaN has no payload here.
+-- What a number says of an outcome: 0 is done, any other a refusal.
 -- Definitions only.
-use Prim.Native.Nat.{ℕ}
+use Prim.Native.Nat.{ℕ, zero, suc}
 use mathlib.Core.Path.{_≡_}
 use mathlib.Core.Bool.{Bool, true}
 use mathlib.Core.List.{List}
@@ -25,3 +26,13 @@ OneOutcome n ps r Post = OneOutcomeSeen n ps r (λ κs. resT r κs .Denot) (λ �
 pub record Decides (b : Bool) (Claim : Type 0) : Type 0 where
   pub holds : b ≡ true → Claim
   pub found : Claim → b ≡ true
+
+-- the first number where it is a refusal, else the second
+abbrev pub orElse : ℕ → ℕ → ℕ
+orElse zero second = second
+orElse (suc r) second = suc r
+
+-- what a lent place holds after a call with the number r: the new value on 0, the old one on a refusal
+abbrev pub onDone : {A : Type 0} → ℕ → A → A → A
+onDone zero new old = new
+onDone (suc r) new old = old

@@ -10,6 +10,8 @@ use lib.Ieee.{Float, nan}
 use lib.ListN.{length, getD, take, drop, replicate, length-append, length-take, length-drop}
 use lib.Seq.{length-take-le, getD-take, ext-getD, sets-eq}
 use borrow.Author.Tests.{lt-ltb}
+use Rattle.outcome.specs.Outcome.{orElse}
+use Rattle.outcome.proofs.Refused.{refused-first}
 use Rattle.lists.specs.Lists.{tabulate}
 use Rattle.lists.specs.Buffer.{written, left}
 use Rattle.lists.proofs.Lists.{length-tabulate, getD-tabulate}
@@ -22,7 +24,7 @@ use Rattle.layout.proofs.Laws.{inks-to, outputs-from, outputs-to}
 use Rattle.lookup.specs.Table.{answerAt, refusal, Looked}
 use Rattle.probing.specs.Text.{newLine, ok, refused, headOf, spaced, bitsOf, report}
 use Rattle.probing.specs.Put.{Put}
-use Rattle.probing.specs.Probe.{limit, unitOf, orElse, shown, probeOutput, Probed}
+use Rattle.probing.specs.Probe.{limit, unitOf, shown, probeOutput, Probed}
 use Rattle.probing.proofs.Stores.{put-length}
 use Rattle.probing.proofs.Digits.{length-head, length-spaced}
 
@@ -32,15 +34,11 @@ unfolding report
 refusal-alone zero xs h = absurd (h refl)
 refusal-alone (suc k) xs h = refl
 
-refusal-first : (k second : ℕ) → (k ≡ 0 → ⊥) → orElse k second ≡ k
-refusal-first zero second h = absurd (h refl)
-refusal-first (suc k) second h = refl
-
 shown-refused : (laid : Laid) (codes table : List Float) → (laid .refusal ≡ 0 → ⊥) → shown laid codes table ≡ report (laid .refusal) []
 unfolding shown
 shown-refused laid codes table h =
     let answers = tabulate (laid .lut .«output_inks») (answerAt (laid .lut) table codes) in
-    ap (λ (k : ℕ). report k answers) (refusal-first (laid .refusal) _ h) ∙ refusal-alone (laid .refusal) answers h
+    ap (λ (k : ℕ). report k answers) (sym (refused-first (laid .refusal) _ h refl)) ∙ refusal-alone (laid .refusal) answers h
 
 -- the entries that a call sets, as a list
 first-written : (f : ℕ → Float) (m : ℕ) (old : List Float) → m ≤ length old → tabulate m f ≡ take m (written f m old)

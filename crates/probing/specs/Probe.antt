@@ -1,11 +1,12 @@
 -- Document 01, "The probe program": the bytes that it prints for the bytes that it reads. Definitions only.
-use Prim.Native.Nat.{ℕ, zero, suc, _≤_}
+use Prim.Native.Nat.{ℕ, _≤_}
 use mathlib.Core.Path.{_≡_}
 use mathlib.Core.Bool.{true}
 use mathlib.Core.List.{List, _++_, map}
 use lib.Ieee.{Float, binary32, div}
 use lib.ListN.{length, getD, take, drop, replicate}
 use Rattle.binary32.specs.Numbers.{ofWhole}
+use Rattle.outcome.specs.Outcome.{orElse}
 use Rattle.lists.specs.Lists.{tabulate}
 use Rattle.layout.specs.declared.Laid.{Laid}
 use Rattle.layout.specs.Layout.{laidOf}
@@ -19,11 +20,6 @@ limit = 16384
 -- an ink code or a table byte v becomes v / 255, rounded once
 unfoldable pub unitOf : ℕ → Float
 unitOf v = div binary32 (ofWhole v) (ofWhole 255)
-
--- the first number where it is a refusal, else the second
-abbrev pub orElse : ℕ → ℕ → ℕ
-orElse zero second = second
-orElse (suc k) second = suc k
 
 -- the report of a lookup with an answer buffer of 15 places, where the layout is accepted
 unfoldable pub shown : Laid → List Float → List Float → List ℕ

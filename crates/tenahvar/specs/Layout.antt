@@ -1,15 +1,11 @@
 -- What a layout through C leaves in the three rows that are lent to it. Definitions only.
-use Prim.Native.Nat.{ℕ, zero, suc}
+use Prim.Native.Nat.{ℕ}
 use mathlib.Core.Path.{_≡_}
 use mathlib.Core.List.{List}
 use lib.Ieee.{Float}
+use Rattle.outcome.specs.Outcome.{onDone}
 use Rattle.layout.specs.declared.Laid.{Laid}
 use Rattle.layout.specs.Layout.{laidOf, IsLayout}
-
--- what a lent place holds after a call with the number r: the new value on 0, the old one on a refusal
-abbrev pub onDone : {A : Type 0} → ℕ → A → A → A
-onDone zero new old = new
-onDone (suc r) new old = old
 
 -- what `tenahvar_layout` owes: its number r, and the three rows afterwards, s, f and c, which were s₀, f₀ and c₀
 pub record LaidOut (sizes : List ℕ) (n m : ℕ) (s₀ f₀ : List ℕ) (c₀ : List Float) (r : ℕ) (s f : List ℕ) (c : List Float) : Type 0 where

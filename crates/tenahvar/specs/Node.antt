@@ -4,16 +4,11 @@ use mathlib.Core.Path.{_≡_}
 use mathlib.Core.Bool.{true}
 use mathlib.Core.List.{List, reverse}
 use lib.Ieee.{Float}
-use lib.ListN.{length, replicate}
+use lib.ListN.{length}
+use Rattle.outcome.specs.Outcome.{orElse, onDone}
 use Rattle.layout.specs.Order.{index}
 use Rattle.layout.specs.Layout.{laidOf, inkSizes}
 use Rattle.lookup.specs.Node.{nodeRefusal}
-use Rattle.tenahvar.specs.Layout.{onDone}
-use Rattle.tenahvar.specs.Lookup.{orElse}
-
--- the number of the node at the coordinates, which come first ink first, in a grid of g lines for each ink
-abbrev pub numberOf : ℕ → List ℕ → ℕ
-numberOf g coordinates = index (replicate (length coordinates) g) (reverse coordinates)
 
 -- 1 to 5, then 6, 7, 10
 abbrev pub nodeNumber : List ℕ → ℕ → ℕ → ℕ → List ℕ → ℕ

@@ -1,11 +1,9 @@
 // The C interface: thin calls of the crates below, on numbers, slices and arrays. What each owes is in specs/.
-mod node;
-
 use cell::Cell;
 use layout::Laid;
 ghost use Rattle.cubes.specs.Blends.{pyramid, prism, trilinear};
 ghost use Rattle.tenahvar.specs.Layout.{LaidOut, LaidBy};
-ghost use Rattle.tenahvar.specs.Lookup.{LookedUp};
+ghost use Rattle.lookup.specs.Table.{LookedBySizes};
 ghost use Rattle.tenahvar.specs.Node.{NodeFound};
 ghost use Rattle.tenahvar.specs.Weights.{RangedInto};
 ghost use Rattle.tenahvar.specs.Cubes.{BlendedAt};
@@ -53,13 +51,9 @@ pub extern "C" fn tenahvar_lookup(
     inputs: &[f32],
     answer: &mut [f32],
 ) -> u32
-    ensures { λ r. ⌜ LookedUp (now (sizes .entry)) n m (now (table .entry)) (now (inputs .entry)) (now (answer .entry)) r (now (answer .exit)) ⌝ }
+    ensures { λ r. ⌜ LookedBySizes (now (sizes .entry)) n m (now (table .entry)) (now (inputs .entry)) (now (answer .entry)) r (now (answer .exit)) ⌝ }
 {
-    let laid = laid_out(*sizes, n, m);
-    if laid.refusal != 0 {
-        return laid.refusal;
-    }
-    lookup::lookup(laid.lut, table, inputs, answer)
+    lookup::lookup_by_sizes(sizes, n, m, table, inputs, answer)
 }
 
 // Lays out, then finds the node: refusals 1 to 5, then 6, 7, 10. On 0 `offset` is where its m entries start in the table.
@@ -83,7 +77,7 @@ pub extern "C" fn tenahvar_node(
     if refusal != 0 {
         return refusal;
     }
-    let first = layout::entry_offset(node::number(lut.grid_size, coordinates), m as u32);
+    let first = lookup::node_offset(lut, table, coordinates);
     *offset = first.0 as usize;
     0
 }

@@ -1,17 +1,9 @@
--- `lookup::write` meets its contract. Assumes nothing.
-use Prim.Native.Nat.{ℕ}
+-- `lookup::write` meets its contract: one ink, two, three, and more. Assumes nothing.
+use Prim.Native.Nat.{_-_}
 use native.Mathlib.Omega.{arith}
-use mathlib.Core.Path.{refl, ap, _∙_}
-use lib.Dec.{ltb}
-use lib.Ieee.{Float}
+use mathlib.Core.List.{[], _∷_}
 use borrow.Author.Needs.{needs}
-use borrow.Author.Tests.{lt-ltb}
-use Rattle.lists.specs.Buffer.{written}
-use Rattle.lists.proofs.Lists.{every-replicate}
-use Rattle.layout.specs.Layout.{inkSizes}
-use Rattle.layout.proofs.Laws.{inks-from, inks-to, outputs-to, sizes-above}
-use Rattle.lookup.proofs.Distances.{answers-law}
-use Rattle.lookup.proofs.Reach.{reach-total}
+use Rattle.lookup.proofs.Grid.{weight, inks-reach, inks-done, all-reach, plan-inside, plan-done, three-inside, three-done}
 use Rattle.lookup.proofs.Turns.{same-room}
 use Rattle.lookup.proofs.write.Statement.{statement}
 use Rattle.lookup.proofs.write.Tie as tie
@@ -20,15 +12,28 @@ pub write-spec : {M : Type 1} → statement M
 write-spec =
     tie.close
     (tie.spec
-    (λ c κs. let s = c .before .before .before .before .before .before in (s .pre .0, (s .pre .1 .1 .0, (refl, refl, refl))))
-    (λ c κs. let s = c .before .before .before .before .before .before .before .before .before .before .before in
-    let lut = s .args .lut in (
-      (inks-from lut (s .pre .0), inks-to lut (s .pre .0), outputs-to lut (s .pre .0)),
-      (
-        rw (c .before .before .before .before .place .ensures .0) (omega (arith, reach-total (inkSizes lut) (s .args .inputs .now) (lut .«output_inks») (sizes-above lut (s .pre .0)) (every-replicate (λ g. ltb g 256) (lut .«input_inks») (lut .«grid_size») (lt-ltb (lut .«grid_size») 256 (search needs))))),
-        (c .before .before .before .before .place .ensures .1, s .pre .1 .1 .1),
-      ),
+    (λ c κs. let s = c .before .before .before in ((omega arith, omega (arith, s .pre .0 .inks-from)), s .pre .0 .narrow))
+    (λ c κs. let s = c .before .before .before .before .before .before in
+    (inks-reach (s .args .filling .now) (s .args .g) (s .args .inputs .now) (s .args .m) (s .pre .0) (search needs) (s .args .table .now) (s .pre .1 .0) 1 (c .before .if1 .taken) _ (λ i. c .before .before .placed .ensures i ∷ []), s .pre .1 .1))
+    (λ c. same-room _ _ _ _ (c .before .before .one .ensures))
+    (λ c. let s = c .before .before .before .before .before .before .before .before .before in
+    inks-done (s .args .filling .now) (s .args .g) (s .args .inputs .now) (s .args .m) (s .pre .0) (search needs) (s .args .table .now) (s .pre .1 .0) 1 (c .before .before .before .before .if1 .taken) _ (λ i. c .before .before .before .before .before .placed .ensures i ∷ []) (s .args .answer .now) _ (c .before .before .one .ensures))
+    (λ c κs. let s = c .before .before .before .before .before in ((omega arith, omega (arith, s .pre .0 .inks-from)), s .pre .0 .narrow))
+    (λ c κs. let s = c .before .before .before .before .before .before .before .before in
+    (inks-reach (s .args .filling .now) (s .args .g) (s .args .inputs .now) (s .args .m) (s .pre .0) (search needs) (s .args .table .now) (s .pre .1 .0) 2 (c .before .if2 .taken) _ (λ i. c .before .before .placed2 .ensures i ∷ c .before .before .before .before .placed .ensures i ∷ []), s .pre .1 .1))
+    (λ c. same-room _ _ _ _ (c .before .before .two .ensures))
+    (λ c. let s = c .before .before .before .before .before .before .before .before .before .before .before in
+    inks-done (s .args .filling .now) (s .args .g) (s .args .inputs .now) (s .args .m) (s .pre .0) (search needs) (s .args .table .now) (s .pre .1 .0) 2 (c .before .before .before .before .if2 .taken) _ (λ i. c .before .before .before .before .before .placed2 .ensures i ∷ c .before .before .before .before .before .before .before .placed .ensures i ∷ []) (s .args .answer .now) _ (c .before .before .two .ensures))
+    (λ c κs. let s = c .before .before .before .before .before .before .before in ((omega arith, omega (arith, s .pre .0 .inks-from)), s .pre .0 .narrow))
+    (λ c κs. let s = c .before .before .before .before .before .before .before .before in
+    let reached = all-reach (s .args .filling .now) (s .args .g) (s .args .inputs .now) (s .args .m) (s .pre .0) (search needs) (s .args .table .now) (s .pre .1 .0) (omega (arith, s .pre .0 .inks-from)) _ _ _ (λ i. c .placed3 .ensures i ∷ c .before .before .placed2 .ensures i ∷ c .before .before .before .before .placed .ensures i ∷ []) in (
+      omega (arith, reached),
+      (weight (s .args .filling .now) (s .args .g) (s .args .inputs .now) (search needs) 0 _ (c .before .before .before .before .placed .ensures), weight (s .args .filling .now) (s .args .g) (s .args .inputs .now) (search needs) 1 _ (c .before .before .placed2 .ensures), weight (s .args .filling .now) (s .args .g) (s .args .inputs .now) (search needs) 2 _ (c .placed3 .ensures)),
     ))
-    (λ c. same-room _ _ _ _ (c .before .before .answers .ensures))
-    (λ c. let s = c .before .before .before .before .before .before .before .before .before .before .before .before .before .before in
-    c .before .before .answers .ensures ∙ ap (λ (f : ℕ → Float). written f (s .args .lut .«output_inks») (s .args .answer .now)) (answers-law (s .args .lut) (s .args .table .now) (s .args .inputs .now) _ (c .before .before .before .before .before .before .before .place .ensures .0))))
+    (λ c κs. let s = c .before .before .before .before .before .before .before .before .before .before .before .before .before in (three-inside (s .args .filling .now) (s .args .g) (s .args .inputs .now) (s .args .m) (s .pre .0) (search needs) (s .args .table .now) (s .pre .1 .0) (omega (arith, s .pre .0 .inks-from)) _ _ _ (λ i. c .before .before .before .before .before .placed3 .ensures i ∷ c .before .before .before .before .before .before .before .placed2 .ensures i ∷ c .before .before .before .before .before .before .before .before .before .placed .ensures i ∷ []) _ (c .before .before .before .before .plan-of .ensures) (c .before .before .before .if3 .taken), s .pre .1 .1))
+    (λ c. same-room _ _ _ _ (c .before .before .three .ensures))
+    (λ c. let s = c .before .before .before .before .before .before .before .before .before .before .before .before .before .before .before .before in three-done (s .args .filling .now) (s .args .g) (s .args .inputs .now) (s .args .m) (s .pre .0) (search needs) (s .args .table .now) (s .pre .1 .0) (omega (arith, s .pre .0 .inks-from)) _ _ _ (λ i. c .before .before .before .before .before .before .before .before .placed3 .ensures i ∷ c .before .before .before .before .before .before .before .before .before .before .placed2 .ensures i ∷ c .before .before .before .before .before .before .before .before .before .before .before .before .placed .ensures i ∷ []) _ (c .before .before .before .before .before .before .before .plan-of .ensures) (c .before .before .before .before .before .before .if3 .taken) (s .args .answer .now) _ (c .before .before .three .ensures))
+    (λ c κs. let s = c .before .before .before .before .before .before .before .before .before .before .before .before .before in
+    ((omega (arith, s .pre .0 .inks-from), s .pre .0 .inks-to, s .pre .0 .outputs-to), (s .pre .0 .narrow, (plan-inside (s .args .filling .now) (s .args .g) (s .args .inputs .now) (s .args .m) (s .pre .0) (search needs) (s .args .table .now) (s .pre .1 .0) (omega (arith, s .pre .0 .inks-from)) _ _ _ (λ i. c .before .before .before .before .before .placed3 .ensures i ∷ c .before .before .before .before .before .before .before .placed2 .ensures i ∷ c .before .before .before .before .before .before .before .before .before .placed .ensures i ∷ []) _ (c .before .before .before .before .plan-of .ensures), s .pre .1 .1))))
+    (λ c. same-room _ _ _ _ (c .before .before .more .ensures))
+    (λ c. let s = c .before .before .before .before .before .before .before .before .before .before .before .before .before .before .before .before in plan-done (s .args .filling .now) (s .args .g) (s .args .inputs .now) (s .args .m) (s .pre .0) (search needs) (s .args .table .now) (s .pre .1 .0) (omega (arith, s .pre .0 .inks-from)) _ _ _ (λ i. c .before .before .before .before .before .before .before .before .placed3 .ensures i ∷ c .before .before .before .before .before .before .before .before .before .before .placed2 .ensures i ∷ c .before .before .before .before .before .before .before .before .before .before .before .before .placed .ensures i ∷ []) _ (c .before .before .before .before .before .before .before .plan-of .ensures) (s .args .answer .now) _ (c .before .before .more .ensures)))

@@ -5,7 +5,8 @@ use lib.ListN.{getD}
 use mir.Syntax.{w8}
 use mir.Val.{Fits}
 use borrow.Author.Needs.{needs}
-use Rattle.tenahvar.proofs.Laid.{is-layout, are-bytes}
+use Rattle.lists.proofs.Lists.{are-bytes}
+use Rattle.tenahvar.proofs.Laid.{is-layout}
 use Rattle.tenahvar.proofs.laid_out.Statement.{statement}
 use Rattle.tenahvar.proofs.laid_out.Tie as tie
 

@@ -5,10 +5,10 @@ use mathlib.Core.Path.{_≡_, refl, sym, ap, _∙_}
 use native.Mathlib.Omega.{arith}
 use borrow.Author.Needs.{needs}
 use Rattle.lists.specs.Buffer.{written}
+use Rattle.lists.proofs.Buffer.{unwritten}
 use Rattle.cell.specs.declared.Cell.{Cell}
 use Rattle.weights.specs.declared.Ranged.{Ranged}
 use Rattle.weights.specs.Rule.{weightCell}
-use Rattle.tenahvar.proofs.Kept.{unwritten}
 use Rattle.tenahvar.proofs.Codes.{code-next, codes-all}
 use Rattle.tenahvar.proofs.tenahvar_create_ranged_256.Statement.{statement}
 use Rattle.tenahvar.proofs.tenahvar_create_ranged_256.Tie as tie

@@ -2,8 +2,8 @@
 -- Assumes nothing.
 use mathlib.Core.Path.{_≡_, sym, ap, _∙_}
 use borrow.Author.Needs.{needs}
+use Rattle.outcome.proofs.Refused.{kept, given}
 use Rattle.layout.specs.declared.Laid.{Laid}
-use Rattle.tenahvar.proofs.Kept.{kept, given}
 use Rattle.tenahvar.proofs.tenahvar_layout.Statement.{statement}
 use Rattle.tenahvar.proofs.tenahvar_layout.Tie as tie
 

@@ -15,22 +15,23 @@ use Rattle.layout.proofs.sizes.above_zero.Statement.{statement}
 use Rattle.layout.proofs.sizes.above_zero.Tie as tie
 
 abbrev Inv-loop : tie.InvT-loop
-Inv-loop n sizes i₀ i = (i ≤ n) × ((k : ℕ) → k < i → ltb 0 (getD sizes k 0) ≡ true)
+Inv-loop sizes n i₀ i = (i ≤ n) × ((k : ℕ) → k < i → ltb 0 (getD sizes k 0) ≡ true)
 
 abbrev μ-loop : tie.MeasureT-loop
-μ-loop n sizes i₀ i = n - i
+μ-loop sizes n i₀ i = n - i
 
 one-is-zero : tie.Need-returns Inv-loop μ-loop
 one-is-zero c =
-    let n = c .before .before .before .args .n in
-    let sizes = c .before .before .before .args .t1 in
-    let i = c .before .before .loop .i in
+    let start = c .before .before .before .before in
+    let n = start .args .n in
+    let sizes = start .args .sizes .now in
+    let i = c .before .before .before .loop .i in
     sym (first-fails (ltb 0) sizes n (omega arith) i (omega arith) (le-ltb 0 (getD sizes i 0) (omega arith)))
 
 none-is-zero : tie.Need-returns-2 Inv-loop μ-loop
 none-is-zero c =
     let n = c .before .before .args .n in
-    let sizes = c .before .before .args .t1 in
+    let sizes = c .before .before .args .sizes .now in
     sym (first-every (ltb 0) sizes n (omega arith) (λ k h. c .before .loop .inv .1 k (omega arith)))
 
 pub above-zero-spec : {M : Type 1} → statement M
@@ -44,5 +45,5 @@ above-zero-spec =
     one-is-zero
     (λ c. search needs)
     (λ c. search needs)
-    (λ c. (search needs, below-more _ _ (c .before .before .loop .inv .1) (lt-ltb 0 _ (pos-of-ne-zero (c .if1 .left)))))
+    (λ c. (search needs, below-more _ _ (c .before .before .before .loop .inv .1) (lt-ltb 0 _ (pos-of-ne-zero (c .if1 .left)))))
     none-is-zero)

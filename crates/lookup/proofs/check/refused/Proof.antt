@@ -1,7 +1,11 @@
--- `lookup::check::refused` meets its contract: each number is that of the first test that fails. Assumes nothing.
-use mathlib.Core.Path.{sym, _∙_}
-use borrow.Author.Tests.{not-false, lt-ltb, le-ltb, eq-eqb, ne-eqb}
+-- `lookup::check::refused` meets its contract: 9 where the record is no layout's, else what the sizes say. Assumes nothing.
+use mathlib.Core.Path.{_≡_, sym, ap, _∙_}
+use mathlib.Core.Bool.{Bool, cond, not}
+use Prim.Native.Nat.{ℕ}
+use borrow.Author.Tests.{not-false}
+use Rattle.layout.specs.Layout.{entries}
 use Rattle.layout.proofs.Laws.{first-filling}
+use Rattle.lookup.specs.Places.{tested}
 use Rattle.lookup.proofs.check.refused.Statement.{statement}
 use Rattle.lookup.proofs.check.refused.Tie as tie
 
@@ -12,21 +16,13 @@ refused-spec =
     (λ c κs. tt)
     (λ c. record { laid = c .before .is-layout .result; decides = c .before .is-layout .ensures; number = sym (simp (c .if1 .taken)) })
     (λ c κs. tt)
+    (λ c κs. tt)
     (λ c. let s = c .before .before .before .before in
+    let layout = c .before .before .before .is-layout in
+    let is = not-false _ (c .before .before .if1 .left) in
+    let total = c .before .entry-count .ensures ∙ first-filling (s .args .lut) (layout .ensures .holds is) in
     record {
-      laid = c .before .before .before .is-layout .result;
-      decides = c .before .before .before .is-layout .ensures;
-      number = sym (simp (c .before .before .if1 .left, lt-ltb (s .args .table) _ (rw (c .before .entry-count .ensures ∙ first-filling (s .args .lut) (c .before .before .before .is-layout .ensures .holds (not-false _ (c .before .before .if1 .left)))) at (c .if2 .taken))));
-    })
-    (λ c. let s = c .before .before .before .before .before .before in
-    record {
-      laid = c .before .before .before .before .before .is-layout .result;
-      decides = c .before .before .before .before .before .is-layout .ensures;
-      number = sym (simp (c .before .before .before .before .if1 .left, le-ltb (s .args .table) _ (rw (c .before .before .before .entry-count .ensures ∙ first-filling (s .args .lut) (c .before .before .before .before .before .is-layout .ensures .holds (not-false _ (c .before .before .before .before .if1 .left)))) at (c .before .before .if2 .left)), ne-eqb (s .args .given) _ (c .if3 .taken)));
-    })
-    (λ c. let s = c .before .before .before .before .before .before in
-    record {
-      laid = c .before .before .before .before .before .is-layout .result;
-      decides = c .before .before .before .before .before .is-layout .ensures;
-      number = sym (simp (c .before .before .before .before .if1 .left, le-ltb (s .args .table) _ (rw (c .before .before .before .entry-count .ensures ∙ first-filling (s .args .lut) (c .before .before .before .before .before .is-layout .ensures .holds (not-false _ (c .before .before .before .before .if1 .left)))) at (c .before .before .if2 .left)), eq-eqb (s .args .given) _ (c .if3 .left)));
+      laid = layout .result;
+      decides = layout .ensures;
+      number = c .sized .ensures ∙ ap (λ (t : ℕ). tested t (s .args .lut .«input_inks») (s .args .table) (s .args .given) 0) total ∙ ap (λ (b : Bool). cond (not b) 9 (tested (entries (s .args .lut)) (s .args .lut .«input_inks») (s .args .table) (s .args .given) 0)) (sym is);
     }))

@@ -11,10 +11,10 @@ use Rattle.lookup.proofs.few.three.Statement.{statement}
 use Rattle.lookup.proofs.few.three.Tie as tie
 
 abbrev Inv-loop : tie.InvT-loop
-Inv-loop part plan rx ry rz m out₀ c0 p1 q1 p2 q2 p3 q3 o₀ out o = Turned (λ k. planned part k rx ry rz plan) m out₀ out o
+Inv-loop part plan r m out₀ rx ry rz c0 p1 q1 p2 q2 p3 q3 o₀ out o = Turned (λ k. planned plan r k part) m out₀ out o
 
 abbrev μ-loop : tie.MeasureT-loop
-μ-loop part plan rx ry rz m out₀ c0 p1 q1 p2 q2 p3 q3 o₀ out o = m - o
+μ-loop part plan r m out₀ rx ry rz c0 p1 q1 p2 q2 p3 q3 o₀ out o = m - o
 
 pub three-spec : {M : Type 1} → statement M
 three-spec =
@@ -29,41 +29,44 @@ three-spec =
     (λ c. omega arith)
     (λ c. omega arith)
     (λ c. omega arith)
+    (λ c. omega arith)
+    (λ c. omega arith)
+    (λ c. omega arith)
     (λ c. turned-none _ _ _)
-    (λ c. omega (arith, c .before .before .before .before .before .before .before .before .before .before .before .pre .0 0))
-    (λ c. omega (arith, c .before .before .before .before .before .before .before .before .before .before .before .pre .0 0))
-    (λ c. omega (arith, c .before .before .before .before .before .before .before .before .before .before .before .before .pre .0 0))
-    (λ c. omega (arith, c .before .before .before .before .before .before .before .before .before .before .before .before .pre .0 1))
-    (λ c. omega (arith, c .before .before .before .before .before .before .before .before .before .before .before .before .pre .0 1))
-    (λ c. omega (arith, c .before .before .before .before .before .before .before .before .before .before .before .before .before .pre .0 1))
-    (λ c. omega (arith, c .before .before .before .before .before .before .before .before .before .before .before .before .before .pre .0 2))
-    (λ c. omega (arith, c .before .before .before .before .before .before .before .before .before .before .before .before .before .pre .0 2))
-    (λ c. omega (arith, c .before .before .before .before .before .before .before .before .before .before .before .before .before .before .pre .0 2))
+    (λ c. omega (arith, c .before .before .before .before .before .before .before .before .before .before .before .before .before .before .pre .0 0))
+    (λ c. omega (arith, c .before .before .before .before .before .before .before .before .before .before .before .before .before .before .pre .0 0))
+    (λ c. omega (arith, c .before .before .before .before .before .before .before .before .before .before .before .before .before .before .before .pre .0 0))
+    (λ c. omega (arith, c .before .before .before .before .before .before .before .before .before .before .before .before .before .before .before .pre .0 1))
+    (λ c. omega (arith, c .before .before .before .before .before .before .before .before .before .before .before .before .before .before .before .pre .0 1))
+    (λ c. omega (arith, c .before .before .before .before .before .before .before .before .before .before .before .before .before .before .before .before .pre .0 1))
+    (λ c. omega (arith, c .before .before .before .before .before .before .before .before .before .before .before .before .before .before .before .before .pre .0 2))
+    (λ c. omega (arith, c .before .before .before .before .before .before .before .before .before .before .before .before .before .before .before .before .pre .0 2))
+    (λ c. omega (arith, c .before .before .before .before .before .before .before .before .before .before .before .before .before .before .before .before .before .pre .0 2))
     (λ c κs. tt)
-    (λ c. omega (arith, c .before .before .before .before .before .before .before .before .before .before .before .before .before .before .before .pre .0 3))
-    (λ c. omega (arith, c .before .before .before .before .before .before .before .before .before .before .before .before .before .before .before .pre .0 3))
-    (λ c. omega (arith, c .before .before .before .before .before .before .before .before .before .before .before .before .before .before .before .before .pre .0 3))
-    (λ c. omega (arith, c .before .before .before .before .before .before .before .before .before .before .before .before .before .before .before .before .pre .0 4))
-    (λ c. omega (arith, c .before .before .before .before .before .before .before .before .before .before .before .before .before .before .before .before .pre .0 4))
-    (λ c. omega (arith, c .before .before .before .before .before .before .before .before .before .before .before .before .before .before .before .before .before .pre .0 4))
+    (λ c. omega (arith, c .before .before .before .before .before .before .before .before .before .before .before .before .before .before .before .before .before .before .pre .0 3))
+    (λ c. omega (arith, c .before .before .before .before .before .before .before .before .before .before .before .before .before .before .before .before .before .before .pre .0 3))
+    (λ c. omega (arith, c .before .before .before .before .before .before .before .before .before .before .before .before .before .before .before .before .before .before .before .pre .0 3))
+    (λ c. omega (arith, c .before .before .before .before .before .before .before .before .before .before .before .before .before .before .before .before .before .before .before .pre .0 4))
+    (λ c. omega (arith, c .before .before .before .before .before .before .before .before .before .before .before .before .before .before .before .before .before .before .before .pre .0 4))
+    (λ c. omega (arith, c .before .before .before .before .before .before .before .before .before .before .before .before .before .before .before .before .before .before .before .before .pre .0 4))
     (λ c κs. tt)
-    (λ c. omega (arith, c .before .before .before .before .before .before .before .before .before .before .before .before .before .before .before .before .before .before .pre .0 5))
-    (λ c. omega (arith, c .before .before .before .before .before .before .before .before .before .before .before .before .before .before .before .before .before .before .pre .0 5))
-    (λ c. omega (arith, c .before .before .before .before .before .before .before .before .before .before .before .before .before .before .before .before .before .before .before .pre .0 5))
-    (λ c. omega (arith, c .before .before .before .before .before .before .before .before .before .before .before .before .before .before .before .before .before .before .before .pre .0 6))
-    (λ c. omega (arith, c .before .before .before .before .before .before .before .before .before .before .before .before .before .before .before .before .before .before .before .pre .0 6))
-    (λ c. omega (arith, c .before .before .before .before .before .before .before .before .before .before .before .before .before .before .before .before .before .before .before .before .pre .0 6))
+    (λ c. omega (arith, c .before .before .before .before .before .before .before .before .before .before .before .before .before .before .before .before .before .before .before .before .before .pre .0 5))
+    (λ c. omega (arith, c .before .before .before .before .before .before .before .before .before .before .before .before .before .before .before .before .before .before .before .before .before .pre .0 5))
+    (λ c. omega (arith, c .before .before .before .before .before .before .before .before .before .before .before .before .before .before .before .before .before .before .before .before .before .before .pre .0 5))
+    (λ c. omega (arith, c .before .before .before .before .before .before .before .before .before .before .before .before .before .before .before .before .before .before .before .before .before .before .pre .0 6))
+    (λ c. omega (arith, c .before .before .before .before .before .before .before .before .before .before .before .before .before .before .before .before .before .before .before .before .before .before .pre .0 6))
+    (λ c. omega (arith, c .before .before .before .before .before .before .before .before .before .before .before .before .before .before .before .before .before .before .before .before .before .before .before .pre .0 6))
     (λ c κs. tt)
     (λ c. omega arith)
     (λ c. omega arith)
     (λ c. omega arith)
     (λ c. omega arith)
     (λ c. let l = c .before .before .before .before .before .before .before .before .before .before .before .loop in
-    let s = c .before .before .before .before .before .before .before .before .before .before .before .before .before .before .before .before .before .before .before .before .before in
+    let s = c .before .before .before .before .before .before .before .before .before .before .before .before .before .before .before .before .before .before .before .before .before .before .before .before in
     let at : ℕ → Float = λ k. getD (s .args .part .now) (getD (s .args .plan .now) k 0 + l .o) nan in
     turned-more _ _ _ _ _ (l .inv) (c .before .before .before .before .before .before .before .before .before .before .loop-test .taken) _
     (c .mlaf3 .ensures
-    ∙ ap (λ (v : Float). mlaf v (rise (at 6) (at 5)) (s .args .rz)) (c .before .before .before .mlaf2 .ensures
-    ∙ ap (λ (v : Float). mlaf v (rise (at 4) (at 3)) (s .args .ry)) (c .before .before .before .before .before .before .mlaf .ensures))))
+    ∙ ap (λ (v : Float). mlaf v (rise (at 6) (at 5)) (getD (s .args .r .now) 2 nan)) (c .before .before .before .mlaf2 .ensures
+    ∙ ap (λ (v : Float). mlaf v (rise (at 4) (at 3)) (getD (s .args .r .now) 1 nan)) (c .before .before .before .before .before .before .mlaf .ensures))))
     (λ c. c .before .loop .inv .room)
     (λ c. turned-all _ _ _ _ _ (c .before .loop .inv) (c .loop-test .left)))

@@ -1,21 +1,22 @@
 -- `lookup::few::two` meets its contract: each turn sets one answer. Assumes nothing.
 use Prim.Native.Nat.{ℕ, _-_}
 use native.Mathlib.Omega.{arith}
+use mathlib.Core.List.{[], _∷_}
 use mathlib.Core.Path.{ap₂, _∙_}
-use lib.Ieee.{Float, nan}
-use lib.ListN.{getD}
+use lib.Ieee.{Float}
 use Rattle.binary32.specs.Blend.{along}
-use Rattle.lookup.specs.Places.{cellsAt, answer}
+use Rattle.lookup.specs.Places.{answer}
 use Rattle.lookup.proofs.Inks.{two-inks}
 use Rattle.lookup.proofs.Turns.{Turned, turned-none, turned-more, turned-all}
 use Rattle.lookup.proofs.few.two.Statement.{statement}
 use Rattle.lookup.proofs.few.two.Tie as tie
 
 abbrev Inv-loop : tie.InvT-loop
-Inv-loop part low high w m out₀ x x-n y y-n v t o₀ out o = Turned (answer part (cellsAt low high w 2)) m out₀ out o
+Inv-loop part m out₀ x x-n v y y-n t o₀ out o =
+    Turned (answer part (record { x = y; «x_n» = y-n; w = t } ∷ record { x = x; «x_n» = x-n; w = v } ∷ [])) m out₀ out o
 
 abbrev μ-loop : tie.MeasureT-loop
-μ-loop part low high w m out₀ x x-n y y-n v t o₀ out o = m - o
+μ-loop part m out₀ x x-n v y y-n t o₀ out o = m - o
 
 pub two-spec : {M : Type 1} → statement M
 two-spec =
@@ -23,12 +24,6 @@ two-spec =
     (tie.spec
     Inv-loop
     μ-loop
-    (λ c. omega arith)
-    (λ c. omega arith)
-    (λ c. omega arith)
-    (λ c. omega arith)
-    (λ c. omega arith)
-    (λ c. omega arith)
     (λ c. turned-none _ _ _)
     (λ c. omega arith)
     (λ c. omega arith)
@@ -54,9 +49,9 @@ two-spec =
     (λ c. omega arith)
     (λ c. omega arith)
     (λ c. let l = c .before .before .before .before .before .before .before .before .loop in
-    let s = c .before .before .before .before .before .before .before .before .before .before .before .before .before .before .before .before .before in
+    let s = c .before .before .before .before .before .before .before .before .before .before .before in
     turned-more _ _ _ _ _ (l .inv) (c .before .before .before .before .before .before .before .loop-test .taken) _
-    (c .mix3 .ensures ∙ ap₂ (λ (a b : Float). along a b (getD (s .args .w .now) 1 nan)) (c .before .before .before .before .mix .ensures) (c .before .mix2 .ensures)
-    ∙ two-inks (s .args .low .now) (s .args .high .now) (s .args .w .now) (s .args .part .now) (l .o)))
+    (c .mix3 .ensures ∙ ap₂ (λ (a b : Float). along a b (s .args .d .w)) (c .before .before .before .before .mix .ensures) (c .before .mix2 .ensures)
+    ∙ two-inks (s .args .part .now) (l .o) (s .args .c) (s .args .d)))
     (λ c. c .before .loop .inv .room)
     (λ c. turned-all _ _ _ _ _ (c .before .loop .inv) (c .loop-test .left)))

@@ -1,0 +1,52 @@
+-- A lookup sees the entries at the nodes of its cells alone, and stays near 0 to 1 where these and the weights are from 0 to 1: for any count of inks.
+-- Assumes nothing.
+use Prim.Native.Nat.{_+_, _*_, _≤_}
+use mathlib.Core.Path.{_≡_}
+use native.Mathlib.Omega.{arith}
+use mathlib.Core.Bool.{true, false}
+use mathlib.Core.List.{List, [], _∷_}
+use lib.Dec.{lit≤}
+use lib.ListN.{length}
+use lib.Ieee.{Float}
+use Rattle.binary32.specs.Blend.{lerp, along, square, tetra}
+use Rattle.binary32.specs.Range.{Share}
+use Rattle.binary32.proofs.Held.{Held, held-more, within→held}
+use Rattle.binary32.proofs.Means.{lerp-held, along-held, square-held}
+use Rattle.binary32.proofs.Tetrahedron.{tetra-held}
+use Rattle.cell.specs.declared.Cell.{Cell}
+use Rattle.lookup.specs.Lookup.{Grid, node, part, lookup}
+use Rattle.demands.proofs.Each.{Each, Weights}
+
+-- two grids that agree at the nodes of the cells give one answer
+pub lookup-agrees : (f g : Grid) (cs : List Cell) → Each (λ ks. f ks ≡ g ks) cs → lookup f cs ≡ lookup g cs
+unfolding lookup
+lookup-agrees f g [] F = F
+lookup-agrees f g (c ∷ []) F = λ t. along (F false t) (F true t) (c .w)
+lookup-agrees f g (d ∷ c ∷ []) F = λ t. square (λ i j. F j i t) (c .w) (d .w)
+lookup-agrees f g (e ∷ d ∷ c ∷ []) F = λ t. tetra (λ i j k. F k j i t) (c .w) (d .w) (e .w)
+lookup-agrees f g (h ∷ e ∷ d ∷ c ∷ cs) F =
+    let low = lookup-agrees (part f (h .x)) (part g (h .x)) (e ∷ d ∷ c ∷ cs) (F false) in
+    let high = lookup-agrees (part f (h .«x_n»)) (part g (h .«x_n»)) (e ∷ d ∷ c ∷ cs) (F true) in
+    λ t. lerp (low t) (high t) (h .w)
+
+-- a value from 0 to 1 is held with no slack
+pub share-held : (x : Float) → Share x → Held 0 x
+share-held x s = within→held 0 x (s .is-fit) (s .within)
+
+-- by the count of inks: 10 for the first three at most, and 4 for each ink above
+pub lookup-held : (f : Grid) (cs : List Cell) → length cs ≤ 1000 → Each (λ ks. Held 0 (f ks)) cs → Weights (Held 0) cs → Held (10 + 4 * length cs) (lookup f cs)
+unfolding lookup
+lookup-held f [] n F W = held-more 0 10 (f []) (lit≤ tt) F
+lookup-held f (c ∷ []) n F W = held-more 5 14 (lookup f (c ∷ [])) (lit≤ tt) (along-held 0 (f (c .x ∷ [])) (f (c .«x_n» ∷ [])) (c .w) (lit≤ tt) (F false) (F true) (W .0))
+lookup-held f (d ∷ c ∷ []) n F W = held-more 10 18 (lookup f (d ∷ c ∷ [])) (lit≤ tt) (square-held (λ i j. f (node d j ∷ node c i ∷ [])) (c .w) (d .w) (λ i j. F j i) (W .1 .0) (W .0))
+lookup-held f (e ∷ d ∷ c ∷ []) n F W =
+    held-more 9 22 (lookup f (e ∷ d ∷ c ∷ [])) (lit≤ tt)
+    (tetra-held 0 (λ i j k. f (node e k ∷ node d j ∷ node c i ∷ [])) (c .w) (d .w) (e .w) (lit≤ tt) (λ i j k. F k j i) (W .1 .1 .0) (W .1 .0) (W .0))
+lookup-held f (h ∷ e ∷ d ∷ c ∷ cs) n F W =
+    let rest = e ∷ d ∷ c ∷ cs in
+    let k = 10 + 4 * length rest in
+    held-more (k + 4) (10 + 4 * length (h ∷ rest)) (lookup f (h ∷ rest)) (omega arith)
+    (lerp-held k (lookup (part f (h .x)) rest) (lookup (part f (h .«x_n»)) rest) (h .w) (omega arith)
+    (lookup-held (part f (h .x)) (e ∷ d ∷ c ∷ cs) (omega arith) (F false) (W .1))
+    (lookup-held (part f (h .«x_n»)) (e ∷ d ∷ c ∷ cs) (omega arith) (F true) (W .1))
+    (W .0))

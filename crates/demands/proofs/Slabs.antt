@@ -1,0 +1,87 @@
+-- The slab of ink j, counted from 1, at line k: it is the table of a layout with one ink fewer, and holds, in their old order, the entries of the nodes
+-- whose coordinate for ink j is k.
+-- Assumes nothing.
+use Prim.Native.Nat.{ℕ, suc, _+_, _-_, _*_, _≤_, _<_}
+use mathlib.Core.Path.{_≡_, sym, ap, _∙_, subst}
+use mathlib.Core.List.{List}
+use native.Mathlib.Omega.{arith}
+use lib.Ieee.{Float, nan}
+use lib.ListN.{length, getD, replicate, length-replicate, getD-replicate}
+use Rattle.binary32.specs.Range.{Share}
+use Rattle.lists.specs.Lists.{product}
+use Rattle.lists.proofs.Lists.{length-tabulate}
+use Rattle.layout.specs.declared.MultidimensionalLut.{MultidimensionalLut}
+use Rattle.layout.specs.Order.{index, Within}
+use Rattle.layout.specs.Layout.{IsLayout, inkSizes, entries, fewer}
+use Rattle.layout.proofs.Order.{entries-within, within-length}
+use Rattle.layout.proofs.Laws.{fewer-inks, fewer-outputs, fewer-size}
+use Rattle.lookup.specs.Table.{output}
+use Rattle.demands.specs.Slab.{insert, without, slab, Shares}
+use Rattle.demands.proofs.Without.{without-replicate, insert-without}
+use Rattle.demands.proofs.Inserted.{insert-within, insert-order, without-within, table-at, table-all}
+
+module _ (lut : MultidimensionalLut) (is : IsLayout lut) (two : 2 ≤ lut .«input_inks») (j : ℕ) (from : 1 ≤ j) (to : j ≤ lut .«input_inks») where
+  -- ink j's place among coordinates that come last ink first
+  abbrev place : ℕ
+  place = lut .«input_inks» - j
+
+  in-place : place < length (inkSizes lut)
+  in-place = omega (arith, length-replicate (lut .«input_inks») (lut .«grid_size»))
+
+  -- the other inks' sizes are those of the smaller layout
+  pub others-are : without place (inkSizes lut) ≡ inkSizes (fewer lut)
+  others-are =
+      let g = lut .«grid_size» in
+      let n = lut .«input_inks» - 1 in
+      let one-more : lut .«input_inks» ≡ suc n = omega arith in
+      ap (λ (k : ℕ). without place (replicate k g)) one-more
+      ∙ without-replicate place n g (omega arith)
+      ∙ (λ t. replicate (sym (fewer-inks lut is two) t) (sym (fewer-size lut is two) t))
+
+  size-at : getD (inkSizes lut) place 0 ≡ lut .«grid_size»
+  size-at = getD-replicate (lut .«input_inks») place (lut .«grid_size») 0 (omega arith)
+
+  module _ (k : ℕ) (in-grid : k < lut .«grid_size») where
+    below : k < getD (inkSizes lut) place 0
+    below = omega (arith, size-at)
+
+    pub slab-node : (ks : List ℕ) → Within (inkSizes (fewer lut)) ks → Within (inkSizes lut) (insert place k ks)
+    slab-node ks w = insert-within (inkSizes lut) ks place k in-place below (subst (λ (gs : List ℕ). Within gs ks) (sym others-are) w)
+
+    -- in their old order
+    pub slab-order : (ks js : List ℕ) → Within (inkSizes (fewer lut)) ks → Within (inkSizes (fewer lut)) js
+        → index (inkSizes (fewer lut)) ks < index (inkSizes (fewer lut)) js → index (inkSizes lut) (insert place k ks) < index (inkSizes lut) (insert place k js)
+    slab-order =
+        let whole = inkSizes lut in
+        subst (λ (gs : List ℕ). (ks js : List ℕ) → Within gs ks → Within gs js → index gs ks < index gs js → index whole (insert place k ks) < index whole (insert place k js)) others-are
+        (λ ks js. insert-order whole ks js place k in-place below)
+
+    module _ (table : List Float) where
+      -- as many entries as the smaller layout asks for
+      pub slab-length : length (slab lut table j k) ≡ entries (fewer lut)
+      unfolding slab
+      slab-length = length-tabulate _ _ ∙ (λ t. product (others-are t) * sym (fewer-outputs lut is two) t)
+
+      -- output o of a node of the smaller grid is that of the node with k put in for ink j
+      pub slab-entry : (ks : List ℕ) (o : ℕ) → Within (inkSizes (fewer lut)) ks → o < lut .«output_inks»
+          → output (fewer lut) (slab lut table j k) o ks ≡ output lut table o (insert place k ks)
+      unfolding slab
+      slab-entry ks o w h =
+          (λ t. getD (slab lut table j k) (index (sym others-are t) ks * fewer-outputs lut is two t + o) nan)
+          ∙ table-at (without place (inkSizes lut)) (lut .«output_inks») (λ o ks. output lut table o (insert place k ks)) ks o (subst (λ (gs : List ℕ). Within gs ks) (sym others-are) w) h
+
+      -- so each node whose coordinate for ink j is k has its entries there
+      pub slab-holds : (ks : List ℕ) (o : ℕ) → Within (inkSizes lut) ks → getD ks place 0 ≡ k → o < lut .«output_inks»
+          → output (fewer lut) (slab lut table j k) o (without place ks) ≡ output lut table o ks
+      slab-holds ks o w on h =
+          slab-entry (without place ks) o (subst (λ (gs : List ℕ). Within gs (without place ks)) others-are (without-within (inkSizes lut) ks place w)) h
+          ∙ ap (output lut table o) (ap (λ (l : ℕ). insert place l (without place ks)) (sym on) ∙ insert-without place ks 0 (omega (arith, within-length (inkSizes lut) ks w, in-place)))
+
+      -- entries from 0 to 1 stay so
+      pub slab-shares : Shares table (entries lut) → Shares (slab lut table j k) (entries (fewer lut))
+      unfolding slab
+      slab-shares shares =
+          subst (Shares (slab lut table j k)) (λ t. product (others-are t) * sym (fewer-outputs lut is two) t)
+          (table-all (without place (inkSizes lut)) (lut .«output_inks») (λ o ks. output lut table o (insert place k ks)) Share (λ ks o w h.
+          let whole = insert-within (inkSizes lut) ks place k in-place below w in
+          shares (index (inkSizes lut) (insert place k ks) * lut .«output_inks» + o) (omega (arith, entries-within (inkSizes lut) (insert place k ks) (lut .«output_inks») whole))))

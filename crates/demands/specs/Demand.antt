@@ -1,0 +1,32 @@
+-- Demand 3: for every accepted layout, every table whose entries are from 0 to 1 and all inputs, with zeros of both signs counting as equal. It is said of any
+-- rule that gives the answer of a layout, a table and inputs at an output. Definitions only.
+use Prim.Native.Nat.{ℕ, _-_, _<_}
+use mathlib.Core.Path.{_≡_}
+use mathlib.Core.List.{List, reverse}
+use lib.Ieee.{Float, nan}
+use lib.ListN.{length, getD}
+use Rattle.binary32.specs.Same.{Same}
+use Rattle.cell.specs.Rule.{line, productOf}
+use Rattle.layout.specs.declared.MultidimensionalLut.{MultidimensionalLut}
+use Rattle.layout.specs.Layout.{IsLayout, entries, fewer}
+use Rattle.lookup.specs.Table.{output}
+use Rattle.demands.specs.Slab.{without, slab, Cuttable, Shares}
+
+abbrev pub Answer : Type 0
+Answer = MultidimensionalLut → List Float → List Float → ℕ → Float
+
+-- an input falls on grid line k: the rounded product decides
+abbrev pub OnLine : MultidimensionalLut → Float → ℕ → Type 0
+OnLine lut x k = productOf x (lut .«grid_size») ≡ line k
+
+-- where all inks fall on grid lines, listed first ink first, each answer is the entry stored at that node
+abbrev pub AtANode : Answer → Type 0
+AtANode answer = (lut : MultidimensionalLut) → IsLayout lut → (table : List Float) → Shares table (entries lut) → (xs : List Float) (lines : List ℕ)
+    → length lines ≡ lut .«input_inks» → ((i : ℕ) → i < lut .«input_inks» → OnLine lut (getD xs i nan) (getD lines i 0))
+    → (o : ℕ) → o < lut .«output_inks» → Same (answer lut table xs o) (output lut table o (reverse lines))
+
+-- an ink j, counted from 1, that may be cut and falls on grid line k can be left out, in the slab at that line
+abbrev pub OnALine : Answer → Type 0
+OnALine answer = (lut : MultidimensionalLut) → IsLayout lut → (table : List Float) → Shares table (entries lut) → (xs : List Float) (j k : ℕ)
+    → Cuttable j (lut .«input_inks») → OnLine lut (getD xs (j - 1) nan) k
+    → (o : ℕ) → o < lut .«output_inks» → Same (answer lut table xs o) (answer (fewer lut) (slab lut table j k) (without (j - 1) xs) o)

@@ -1,0 +1,1 @@
+// Demand 3: no code, theorems about the definition that the lookup is proved to meet.

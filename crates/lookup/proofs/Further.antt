@@ -1,0 +1,98 @@
+-- Four inks and more: what the recursion gives above three inks is the answer. Assumes nothing.
+use Prim.Native.Nat.{ℕ, zero, suc, _+_, _-_, _≤_, _<_, max}
+use native.Mathlib.Omega.{arith}
+use native.Mathlib.Nat.{zero-add, add-zero}
+use mathlib.Core.Path.{_≡_, refl, ap, ap₂, sym, _∙_}
+use mathlib.Core.List.{List, [], _∷_, _++_}
+use lib.Ieee.{Float, nan}
+use lib.ListN.{length, getD, take, drop}
+use Rattle.binary32.specs.Blend.{lerp}
+use Rattle.lists.specs.Buffer.{written}
+use Rattle.lists.proofs.Buffer.{written-at, written-same, written-over}
+use Rattle.cell.specs.declared.Cell.{Cell}
+use Rattle.lookup.specs.Lookup.{Grid, part, lookup}
+use Rattle.lookup.specs.Places.{within, reach, answer, above, cellsAt, placedInk, firstInks, furtherInks}
+use Rattle.lookup.proofs.Inks.{from-drop, drop-within}
+
+-- ---- one ink more, by the fold of the answers of two parts
+
+module _ (leaf : ℕ → List Float → Float) (part : List Float) (a b : ℕ) (t : Float) (m : ℕ) (old lower old-upper upper now : List Float) where
+  pub along-last : m ≤ length old → m ≤ length old-upper
+      → lower ≡ written (λ o. leaf o (take (length part - a) (drop a part))) m old
+      → upper ≡ written (λ o. leaf o (take (length part - b) (drop b part))) m old-upper
+      → now ≡ written (λ o. lerp (getD lower o nan) (getD upper o nan) t) m lower
+      → now ≡ written (λ o. lerp (leaf o (drop a part)) (leaf o (drop b part)) t) m old
+  along-last room room-upper below above is =
+      is
+      ∙ ap (written (λ o. lerp (getD lower o nan) (getD upper o nan) t) m) below
+      ∙ written-over (λ o. leaf o (take (length part - a) (drop a part))) (λ o. lerp (getD lower o nan) (getD upper o nan) t) m old nan room
+      ∙ written-same _ _ m old (λ o h. ap₂ (λ (x y : Float). lerp x y t) (lower-at o h) (upper-at o h))
+    where
+      lower-at : (o : ℕ) → o < m → getD lower o nan ≡ leaf o (drop a part)
+      lower-at o h = ap (λ (l : List Float). getD l o nan) below ∙ written-at _ m old o nan h room ∙ ap (leaf o) (from-drop part a)
+
+      upper-at : (o : ℕ) → o < m → getD upper o nan ≡ leaf o (drop b part)
+      upper-at o h = ap (λ (l : List Float). getD l o nan) above ∙ written-at _ m old-upper o nan h room-upper ∙ ap (leaf o) (from-drop part b)
+
+-- the one ink
+pub above-first : (three : List Float → Float) (low high : List ℕ) (w : List Float) (k : ℕ) (part : List Float) → k ≡ 1
+    → lerp (three (drop (getD low (k - 1) 0) part)) (three (drop (getD high (k - 1) 0) part)) (getD w (k - 1) nan) ≡ above three (cellsAt low high w k) part
+above-first three low high w k part one = rw one refl
+
+-- the last of k inks
+pub above-last : (three : List Float → Float) (low high : List ℕ) (w : List Float) (k : ℕ) (part : List Float) → 1 ≤ k
+    → lerp (above three (cellsAt low high w (k - 1)) (drop (getD low (k - 1) 0) part)) (above three (cellsAt low high w (k - 1)) (drop (getD high (k - 1) 0) part)) (getD w (k - 1) nan)
+    ≡ above three (cellsAt low high w k) part
+above-last three low high w k part some = let last : suc (k - 1) ≡ k = omega arith in ap (λ (j : ℕ). above three (cellsAt low high w j) part) last
+
+pub reach-last : (low high : List ℕ) (w : List Float) (k : ℕ) → 1 ≤ k → reach (cellsAt low high w k) ≡ max (getD low (k - 1) 0) (getD high (k - 1) 0) + reach (cellsAt low high w (k - 1))
+reach-last low high w k some = let last : k ≡ suc (k - 1) = omega arith in ap (λ (j : ℕ). reach (cellsAt low high w j)) last
+
+-- ---- the answer
+
+-- one ink more than three or more
+lookup-more : (f : Grid) (h : Cell) (cs : List Cell) → 3 ≤ length cs → lookup f (h ∷ cs) ≡ lerp (lookup (part f (h .x)) cs) (lookup (part f (h .«x_n»)) cs) (h .w)
+unfolding lookup
+lookup-more f h [] few = absurd (omega arith)
+lookup-more f h (c ∷ []) few = absurd (omega arith)
+lookup-more f h (d ∷ c ∷ []) few = absurd (omega arith)
+lookup-more f h (e ∷ d ∷ c ∷ cs) few = refl
+
+-- hs above three cells
+module _ (cx cy cz : Cell) where
+  abbrev over : List Cell → List Cell
+  over hs = hs ++ (cz ∷ cy ∷ cx ∷ [])
+
+  three-or-more : (hs : List Cell) → 3 ≤ length (over hs)
+  three-or-more [] = omega arith
+  three-or-more (h ∷ hs) = omega (arith, three-or-more hs)
+
+  module _ (o : ℕ) (three : List Float → Float) (is : (part : List Float) → three part ≡ answer part (over []) o) where
+    pub above-answer : (hs : List Cell) (table : List Float) → above three hs table ≡ answer table (over hs) o
+    above-answer [] table = is table
+    above-answer (h ∷ hs) table =
+        ap₂ (λ (a b : Float). lerp a b (h .w))
+        (above-answer hs (drop (h .x) table) ∙ ap (λ (f : Grid). lookup f (over hs)) (drop-within table (h .x) o))
+        (above-answer hs (drop (h .«x_n») table) ∙ ap (λ (f : Grid). lookup f (over hs)) (drop-within table (h .«x_n») o))
+        ∙ sym (lookup-more (within table o) h (over hs) (three-or-more hs))
+
+-- what more inks add to the reach
+pub reach-over : (hs cs : List Cell) → reach (hs ++ cs) ≡ reach hs + reach cs
+reach-over [] cs = sym (zero-add _)
+reach-over (h ∷ hs) cs = omega (arith, reach-over hs cs)
+
+-- the inks from the fourth on, above the first three
+pub further : (filling : List ℕ) (g : ℕ) (xs : List Float) (k : ℕ) → furtherInks filling g xs k ++ firstInks filling g xs 3 ≡ firstInks filling g xs (suc (suc (suc k)))
+further filling g xs zero = refl
+further filling g xs (suc k) = ap (λ (cs : List Cell). placedInk filling g xs (suc (suc (suc k))) ∷ cs) (further filling g xs k)
+
+-- the fourth ink alone
+module _ (filling : List ℕ) (g : ℕ) (xs : List Float) (k : ℕ) (one : k ≡ 1) (h : Cell) (is : h ≡ placedInk filling g xs 3) where
+  one-further : furtherInks filling g xs k ≡ h ∷ []
+  one-further = ap (furtherInks filling g xs) one ∙ ap (λ (c : Cell). c ∷ []) (sym is)
+
+  pub reach-fourth : reach (furtherInks filling g xs k) ≡ max (h .x) (h .«x_n»)
+  reach-fourth = ap reach one-further ∙ add-zero _
+
+  pub above-fourth : (three : List Float → Float) (part : List Float) → lerp (three (drop (h .x) part)) (three (drop (h .«x_n») part)) (h .w) ≡ above three (furtherInks filling g xs k) part
+  above-fourth three part = ap (λ (hs : List Cell). above three hs part) (sym one-further)
