@@ -13,10 +13,10 @@ use Rattle.layout.specs.declared.MultidimensionalLut.{MultidimensionalLut}
 use Rattle.layout.specs.Layout.{laidOf, IsLayout}
 use Rattle.layout.proofs.BySizes.{laid-size, laid-inks, laid-outputs}
 use Rattle.lookup.specs.Table.{answerAt, refusal, refusalBySizes, LookedBySizes}
-use Rattle.lookup.specs.Places.{Laid, answerIn, tested, Answered}
+use Rattle.lookup.specs.Places.{Promised, answerIn, tested, Answered}
 use Rattle.lookup.proofs.Grid.{laid-of}
 
-moved : (f f′ : List ℕ) (g g′ n n′ m m′ : ℕ) → f ≡ f′ → g ≡ g′ → n ≡ n′ → m ≡ m′ → Laid f′ g′ n′ m′ → Laid f g n m
+moved : (f f′ : List ℕ) (g g′ n n′ m m′ : ℕ) → f ≡ f′ → g ≡ g′ → n ≡ n′ → m ≡ m′ → Promised f′ g′ n′ m′ → Promised f g n m
 moved f f′ g g′ n n′ m m′ a b c d laid = rw (a, b, c, d) laid
 
 module _ (sizes : List ℕ) (n m : ℕ) (none : laidOf sizes n m .refusal ≡ 0) where
@@ -35,7 +35,7 @@ module _ (sizes : List ℕ) (n m : ℕ) (none : laidOf sizes n m .refusal ≡ 0)
   outputs : m ≡ lut .«output_inks»
   outputs = sym (laid-outputs sizes n m none)
 
-  pub laid-by-sizes : IsLayout lut → (filling : List ℕ) → filling ≡ lut .«grid_filling_size» → Laid filling g n m
+  pub laid-by-sizes : IsLayout lut → (filling : List ℕ) → filling ≡ lut .«grid_filling_size» → Promised filling g n m
   laid-by-sizes is filling row = moved _ _ _ _ _ _ _ _ row size inks outputs (laid-of lut is)
 
   module _ (table inputs old : List Float) (r : ℕ) (now : List Float) (answered : Answered (replicate n g) n m table inputs old r now) where

@@ -18,7 +18,7 @@ use Rattle.layout.specs.Layout.{IsLayout}
 use Rattle.layout.specs.Order.{Steps}
 use Rattle.layout.proofs.Laws.{inks-from, inks-to, outputs-to, size-from, filling-within, filling-steps, first-filling}
 use Rattle.lookup.specs.Table.{inkCell, cells}
-use Rattle.lookup.specs.Places.{reach, strides, scale, scaled, planned, Inside, Plans, above, answer, placedInk, firstInks, furtherInks, Laid, answerIn}
+use Rattle.lookup.specs.Places.{reach, strides, scale, scaled, planned, Inside, Plans, above, answer, placedInk, firstInks, furtherInks, Promised, answerIn}
 use Rattle.lookup.proofs.Reach.{on-grid, reach-total}
 use Rattle.lookup.proofs.Distances.{answers-law}
 use Rattle.lookup.proofs.Further.{above-answer, reach-over, further}
@@ -36,7 +36,7 @@ module _ (filling : List ℕ) (g : ℕ) (xs : List Float) where
   pub weight : g < 256 → (i : ℕ) (c : Cell) → c ≡ placedInk filling g xs i → Below 1 (c .w)
   weight byte i c is = subst (λ (d : Cell). Below 1 (d .w)) (sym is) (on-grid i g (getD xs i nan) byte .weight)
 
-module _ (filling : List ℕ) (g : ℕ) (xs : List Float) (m : ℕ) (laid : Laid filling g (length xs) m) (byte : g < 256) (table : List Float)
+module _ (filling : List ℕ) (g : ℕ) (xs : List Float) (m : ℕ) (laid : Promised filling g (length xs) m) (byte : g < 256) (table : List Float)
     (enough : product (replicate (length xs) g) * m ≤ length table) where
   abbrev inks : ℕ → List Cell
   inks = firstInks filling g xs
@@ -95,7 +95,7 @@ module _ (filling : List ℕ) (g : ℕ) (xs : List Float) (m : ℕ) (laid : Laid
 
 -- ---- what a layout's record promises
 
-pub laid-of : (lut : MultidimensionalLut) → IsLayout lut → Laid (lut .«grid_filling_size») (lut .«grid_size») (lut .«input_inks») (lut .«output_inks»)
+pub laid-of : (lut : MultidimensionalLut) → IsLayout lut → Promised (lut .«grid_filling_size») (lut .«grid_size») (lut .«input_inks») (lut .«output_inks»)
 laid-of lut is =
     record {
       inks-from = inks-from lut is;

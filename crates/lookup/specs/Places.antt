@@ -124,7 +124,7 @@ abbrev pub Narrow : List ℕ → ℕ → Type 0
 Narrow filling n = (i : ℕ) → i < n → getD filling i 0 < 4_294_967_296
 
 -- what an accepted layout of n inks and m outputs promises of them
-pub record Laid (filling : List ℕ) (g n m : ℕ) : Type 0 where
+pub record Promised (filling : List ℕ) (g n m : ℕ) : Type 0 where
   pub inks-from : 1 ≤ n
   pub inks-to : n ≤ 15
   pub outputs-to : m ≤ 15

@@ -2,9 +2,10 @@
 use cell::Cell;
 ghost use mathlib.Core.Path.{_≡_};
 ghost use mathlib.Core.List.{[], _∷_};
-ghost use Prim.Native.Nat.{_+_, _≤_};
-ghost use lib.ListN.{length};
-ghost use Rattle.binary32.specs.Blend.{along};
+ghost use Prim.Native.Nat.{_+_, _≤_, _<_};
+ghost use lib.Ieee.{nan};
+ghost use lib.ListN.{length, getD};
+ghost use Rattle.binary32.specs.Blend.{along, mlaf, rise};
 ghost use Rattle.lists.specs.Buffer.{written};
 ghost use Rattle.lookup.specs.Places.{reach, answer, planned, Inside};
 
@@ -52,6 +53,14 @@ pub(crate) fn two(part: &[f32], c: Cell, d: Cell, m: usize, out: &mut [f32])
     }
 }
 
+// The sum so far plus, at output o, the rise from node q to node p times the ink's weight.
+fn term(sum: f32, part: &[f32], p: usize, q: usize, o: usize, weight: f32) -> f32
+    requires { ⌜ (p + o < length (now part)) × (q + o < length (now part)) ⌝ }
+    ensures { λ r. ⌜ r ≡ mlaf sum (rise (getD (now (part .entry)) (q + o) nan) (getD (now (part .entry)) (p + o) nan)) weight ⌝ }
+{
+    binary32::mlaf(sum, part[p + o] - part[q + o], weight)
+}
+
 // Three inks, with their weights r: the tetrahedron of the plan.
 pub(crate) fn three(part: &[f32], plan: &[usize; 7], r: &[f32; 3], m: usize, out: &mut [f32])
     requires { ⌜ Inside (now plan) m (length (now part)) ⌝ }
@@ -70,9 +79,9 @@ pub(crate) fn three(part: &[f32], plan: &[usize; 7], r: &[f32; 3], m: usize, out
     let q3 = plan[6];
     let mut o = 0;
     while o < m {
-        let s1 = binary32::mlaf(part[c0 + o], part[p1 + o] - part[q1 + o], rx);
-        let s2 = binary32::mlaf(s1, part[p2 + o] - part[q2 + o], ry);
-        out[o] = binary32::mlaf(s2, part[p3 + o] - part[q3 + o], rz);
+        let s1 = term(part[c0 + o], part, p1, q1, o, rx);
+        let s2 = term(s1, part, p2, q2, o, ry);
+        out[o] = term(s2, part, p3, q3, o, rz);
         o += 1;
     }
 }

@@ -14,12 +14,12 @@ ghost use lib.ListN.{length, replicate};
 ghost use Rattle.lists.specs.Lists.{product};
 ghost use Rattle.lists.specs.Buffer.{written};
 ghost use Rattle.lookup.specs.Node.{NodeRefused, NodePlaced, NodeShown};
-ghost use Rattle.lookup.specs.Places.{answerIn, Laid, Answered};
+ghost use Rattle.lookup.specs.Places.{answerIn, Promised, Answered};
 ghost use Rattle.lookup.specs.Table.{Looked, LookedBySizes};
 
 // The m answers, in a grid of g lines for each ink, whose filling sizes are lent.
 fn write(filling: &[u32; 16], g: u8, m: usize, table: &[f32], inputs: &[f32], answer: &mut [f32])
-    requires { ⌜ Laid (now filling) g (length (now inputs)) m ⌝ }
+    requires { ⌜ Promised (now filling) g (length (now inputs)) m ⌝ }
     requires { ⌜ product (replicate (length (now inputs)) g) * m ≤ length (now table) ⌝ }
     requires room { ⌜ m ≤ length (now answer) ⌝ }
     ensures { λ _. ⌜ now (answer .exit) ≡ written (answerIn (replicate (length (now (inputs .entry))) g) m (now (table .entry)) (now (inputs .entry))) m (now (answer .entry)) ⌝ }
@@ -55,7 +55,7 @@ fn answered(
     inputs: &[f32],
     answer: &mut [f32],
 ) -> u32
-    requires { ⌜ Laid (now filling) g n m ⌝ }
+    requires { ⌜ Promised (now filling) g n m ⌝ }
     ensures { λ r. ⌜ Answered (replicate n g) n m (now (table .entry)) (now (inputs .entry)) (now (answer .entry)) r (now (answer .exit)) ⌝ }
 {
     let total = (filling[0] as u64) * (g as u64);

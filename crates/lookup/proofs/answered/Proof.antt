@@ -10,7 +10,7 @@ use mir.Val.{Fits}
 use borrow.Author.Needs.{needs, fits-under}
 use Rattle.lists.specs.Lists.{product}
 use Rattle.lists.specs.Buffer.{written}
-use Rattle.lookup.specs.Places.{answerIn, tested, Laid}
+use Rattle.lookup.specs.Places.{answerIn, tested, Promised}
 use Rattle.lookup.proofs.Refusals.{answered-refused, answered-passed, answered-short, answered-done}
 use Rattle.lookup.proofs.Turns.{same-room}
 use Rattle.lookup.proofs.answered.Statement.{statement}
@@ -31,7 +31,7 @@ answered-spec =
     (λ c. let s = c .before .before .before .before .before .before .before in answered-short (replicate (s .args .n) (s .args .g)) (s .args .n) (s .args .m) (s .args .table .now) (s .args .inputs .now) (s .args .answer .now) _ (c .before .before .sized .ensures ∙ ap (λ (t : ℕ). tested t (s .args .n) (length (s .args .table .now)) (length (s .args .inputs .now)) 0) (s .pre .whole)) (c .before .if1 .left) (c .if2 .taken))
     (λ c κs. let s = c .before .before .before .before .before .before .before .before in
     let ok = answered-passed (replicate (s .args .n) (s .args .g)) (s .args .n) (s .args .m) (s .args .table .now) (s .args .inputs .now) (s .args .answer .now) _ (c .before .before .before .sized .ensures ∙ ap (λ (t : ℕ). tested t (s .args .n) (length (s .args .table .now)) (length (s .args .inputs .now)) 0) (s .pre .whole)) (c .before .before .if1 .left) in (
-      subst (λ (k : ℕ). Laid (s .args .filling .now) (s .args .g) k (s .args .m)) (sym (ok .as-many)) (s .pre),
+      subst (λ (k : ℕ). Promised (s .args .filling .now) (s .args .g) k (s .args .m)) (sym (ok .as-many)) (s .pre),
       (subst (λ (k : ℕ). product (replicate k (s .args .g)) * s .args .m ≤ length (s .args .table .now)) (sym (ok .as-many)) (ok .enough), c .before .if2 .left),
     ))
     (λ c. same-room _ _ _ _ (c .before .before .write .ensures))
