@@ -1,4 +1,5 @@
--- Where the code finds its entries. A cell is held by the distances, in entries, from a table part's start to its lower and its upper node. Definitions only.
+-- Where the code finds its entries, for the contracts of private functions alone: no public statement rests on this file. A cell is held by the distances, in
+-- entries, from a table part's start to its lower and its upper node. Definitions only.
 use Prim.Native.Nat.{ℕ, zero, suc, _+_, _*_, _≤_, _<_, max}
 use mathlib.Core.Path.{_≡_}
 use mathlib.Core.Bool.{Bool, true, false, not, cond}

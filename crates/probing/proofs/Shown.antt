@@ -1,7 +1,7 @@
 -- What the probe prints, from what its parts say: the layout's record, and the lookup's number and answers.
 -- Assumes nothing.
 use Prim.Native.Nat.{ℕ, zero, suc, _≤_, _<_}
-use mathlib.Core.Path.{_≡_, refl, sym, _∙_, ap}
+use mathlib.Core.Path.{_≡_, refl, sym, _∙_, ap, subst⁻¹}
 use mathlib.Core.Bool.{true}
 use mathlib.Core.List.{List, [], _∷_, _++_, map}
 use native.Mathlib.Nat.{zero-add}
@@ -18,8 +18,8 @@ use Rattle.lists.proofs.Lists.{length-tabulate, getD-tabulate}
 use Rattle.lists.proofs.Buffer.{length-written, written-at}
 use Rattle.layout.specs.declared.MultidimensionalLut.{MultidimensionalLut}
 use Rattle.layout.specs.declared.Laid.{Laid}
-use Rattle.layout.specs.Layout.{recordOf, laidOf, IsLayout}
-use Rattle.layout.proofs.Accepted.{accepted-of}
+use Rattle.layout.specs.Layout.{laidOf, IsLayout}
+use Rattle.layout.proofs.BySizes.{laid-is-layout, laid-inks, laid-outputs}
 use Rattle.layout.proofs.Laws.{inks-to, outputs-from, outputs-to}
 use Rattle.lookup.specs.Table.{answerAt, refusal, Looked}
 use Rattle.probing.specs.Text.{newLine, ok, refused, headOf, spaced, bitsOf, report}
@@ -71,23 +71,20 @@ module _ {input bytes : List ℕ} {g n m : ℕ} {laid : Laid} (asked : Asked inp
   layout-refuses h = output ∙ shown-refused laid _ _ h
 
   module _ (byte : g < 256) (accepted : laid .refusal ≡ 0) where
-    given : laidOf (replicate 16 g) n m ≡ record { refusal = 0; lut = laid .lut }
-    given = sym (asked .laid-is) ∙ (λ i. record { refusal = accepted i; lut = laid .lut })
+    none : laidOf (replicate 16 g) n m .refusal ≡ 0
+    none = ap (λ (l : Laid). l .refusal) (sym (asked .laid-is)) ∙ accepted
 
-    made : laid .lut ≡ recordOf (take n (replicate 16 g)) n m
-    unfolding laidOf
-    made = accepted-of (take n (replicate 16 g)) n m (laid .lut) given .1
+    record-is : laid .lut ≡ laidOf (replicate 16 g) n m .lut
+    record-is = ap (λ (l : Laid). l .lut) (asked .laid-is)
 
     pub is-layout : IsLayout (laid .lut)
-    is-layout = record { sizes = replicate 16 g; n = n; m = m; sixteen = refl; bytes = simp (lt-ltb g 256 byte) tt; accepted = given }
+    is-layout = subst⁻¹ IsLayout record-is (laid-is-layout (replicate 16 g) n m none refl (simp (lt-ltb g 256 byte) tt))
 
     inks : laid .lut .«input_inks» ≡ n
-    unfolding recordOf
-    inks = ap (λ (l : MultidimensionalLut). l .«input_inks») made
+    inks = ap (λ (l : MultidimensionalLut). l .«input_inks») record-is ∙ laid-inks (replicate 16 g) n m none
 
     outputs : laid .lut .«output_inks» ≡ m
-    unfolding recordOf
-    outputs = ap (λ (l : MultidimensionalLut). l .«output_inks») made
+    outputs = ap (λ (l : MultidimensionalLut). l .«output_inks») record-is ∙ laid-outputs (replicate 16 g) n m none
 
     pub inks-up-to : n ≤ 15
     inks-up-to = omega (arith, inks, inks-to (laid .lut) is-layout)
