@@ -1,6 +1,8 @@
 //! Time of one lookup, the library's and the Rust text's side by side: same machine, same table, same inputs, both for
 //! release. First both must give the same bits at every input.
 //!
+//! Then the time of reading a CLUT element, beside a plain Rust loop: the crate's own reading rounds twice.
+//!
 //! The Rust text is compiled with document 01's helpers, its record is made once and its call checks nothing but what a
 //! slice does. The library's call lays out and checks every refusal each time.
 
@@ -33,6 +35,43 @@ fn main() {
             let kb = table.len() * 4 / 1024;
             println!("{n:>3} {g:>4} {m:>3} {kb:>10} {rust:>12.1} {library:>12.1} {:>14.2}", library / rust);
         }
+    }
+    println!("ns per entry of a CLUT element read, g 17, n 4, m 3");
+    println!("{:>9} {:>12} {:>12} {:>14}", "precision", "Rust loop", "library", "library/Rust");
+    for precision in [1, 2] {
+        let (rust, library) = reading(rng, precision);
+        println!("{precision:>9} {rust:>12.2} {library:>12.2} {:>14.2}", library / rust);
+    }
+}
+
+/// The best time of each, in ns for one entry of an element.
+fn reading(rng: &mut values::Rng, precision: usize) -> (f64, f64) {
+    let total = 17usize.pow(4) * 3;
+    let mut element: Vec<u8> = (0..20 + precision * total).map(|_| rng.next() as u8).collect();
+    element[..16].fill(17);
+    element[16] = precision as u8;
+    let (mut a, mut b, mut sizes) = (vec![0.0f32; total], vec![1.0f32; total], [0; 16]);
+    let mut best = (f64::MAX, f64::MAX);
+    for _ in 0..20 * ROUNDS {
+        let began = Instant::now();
+        rust_loop(black_box(&element), &mut a);
+        best.0 = best.0.min(began.elapsed().as_nanos() as f64);
+        let began = Instant::now();
+        assert_eq!(library::read_clut(black_box(&element), 4, 3, &mut sizes, &mut b), 0);
+        best.1 = best.1.min(began.elapsed().as_nanos() as f64);
+    }
+    assert!(a.iter().zip(&b).all(|(x, y)| x.to_bits() == y.to_bits()), "precision {precision}: not the same bits");
+    (best.0 / total as f64, best.1 / total as f64)
+}
+
+/// What one would write: no refusals, slice bounds checked.
+fn rust_loop(element: &[u8], entries: &mut [f32]) {
+    let data = &element[20..];
+    if element[16] == 1 {
+        entries.iter_mut().zip(data).for_each(|(entry, &v)| *entry = v as f32 / 255.0);
+    } else {
+        let pairs = data.chunks_exact(2);
+        entries.iter_mut().zip(pairs).for_each(|(entry, v)| *entry = u16::from_be_bytes([v[0], v[1]]) as f32 / 65535.0);
     }
 }
 

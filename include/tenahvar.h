@@ -25,9 +25,12 @@ extern "C" {
 #define TENAHVAR_LARGE_TOTAL 5     /* the total is above 4,294,967,295 */
 #define TENAHVAR_SHORT_TABLE 6     /* the table is shorter than the total */
 #define TENAHVAR_INPUT_COUNT 7     /* the number of inputs, or of node coordinates, is not n */
-#define TENAHVAR_SHORT_ANSWER 8    /* the answer buffer is shorter than m */
+#define TENAHVAR_SHORT_ANSWER 8    /* a buffer to be written is too short: shorter than m, or for a CLUT than the total */
 #define TENAHVAR_FOREIGN_RECORD 9  /* a layout record is not one that an accepted layout gives: no function below takes a record */
 #define TENAHVAR_OUTSIDE_GRID 10   /* a node, of a cell or of the coordinates, is outside 0..g-1 */
+#define TENAHVAR_SHORT_ELEMENT 13  /* a CLUT element has under 20 bytes */
+#define TENAHVAR_PRECISION 14      /* a CLUT element's precision is neither 1 nor 2 */
+#define TENAHVAR_SHORT_DATA 15     /* a CLUT element has too little data for the total */
 
 /* A layout: the first n of the sixteen sizes are in use and are one value g; there are n inks in and m out, and g^n * m entries, the total.
  * In the table the first ink varies least rapidly, the last most rapidly, and the m entries of a node stand together. */
@@ -48,6 +51,13 @@ uint32_t tenahvar_node(const uint8_t sizes[16], size_t n, size_t m,
                        const float *table, size_t table_length,
                        const size_t *coordinates, size_t coordinates_length,
                        size_t *offset);
+
+/* Reads the CLUT element of an ICC.1 lutAToBType: sixteen sizes, a precision byte, three bytes of padding, then the data. An entry is v / 255 of one byte
+ * (precision 1) or v / 65535 of two, the first counting most (precision 2). Padding, sizes from n on and data past the total are ignored.
+ * Refusals 13, then 1 to 5, then 14, 15, 8. On 0 it writes the element's sixteen sizes to `sizes` and sets the first total entries of `entries`, and no
+ * others. What was read is for the functions above, with the same n and m; the element is needed no more. */
+uint32_t tenahvar_read_clut(const uint8_t *element, size_t element_length, size_t n, size_t m,
+                            uint8_t sizes[16], float *entries, size_t entries_length);
 
 /* For each 8-bit ink code its lower node, upper node and weight on an axis of g lines: refusal 3. */
 uint32_t tenahvar_create_ranged_256(uint8_t g, size_t x[256], size_t x_n[256], float w[256]);

@@ -17,13 +17,13 @@ pub trait Case: Sized {
 /// The counts of a run. The first difference ends it.
 pub struct Run {
     counts: Vec<(&'static str, u64)>,
-    numbers: [u64; 11],
+    numbers: [u64; 16],
     began: Instant,
 }
 
 impl Run {
     pub fn new() -> Run {
-        Run { counts: Vec::new(), numbers: [0; 11], began: Instant::now() }
+        Run { counts: Vec::new(), numbers: [0; 16], began: Instant::now() }
     }
 
     /// Opens a kind of calls; what is held from here on counts to it.

@@ -14,18 +14,21 @@ extern "C" {
 }
 
 /// Zeros without memory of their own: read and write, private, anonymous, not reserved (the Linux numbers).
-struct Zeros {
+pub struct Zeros {
     start: *mut f32,
     entries: usize,
 }
 
 impl Zeros {
-    fn new(entries: usize) -> Option<Zeros> {
+    pub fn new(entries: usize) -> Option<Zeros> {
         let start = unsafe { mmap(std::ptr::null_mut(), entries * 4, 1 | 2, 0x2 | 0x20 | 0x4000, -1, 0) };
         (start as isize != -1).then_some(Zeros { start: start.cast(), entries })
     }
-    fn entries(&mut self) -> &mut [f32] {
+    pub fn entries(&mut self) -> &mut [f32] {
         unsafe { std::slice::from_raw_parts_mut(self.start, self.entries) }
+    }
+    pub fn bytes(&mut self) -> &mut [u8] {
+        unsafe { std::slice::from_raw_parts_mut(self.start.cast(), self.entries * 4) }
     }
 }
 

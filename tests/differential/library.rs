@@ -12,6 +12,9 @@ extern "C" {
         sizes: *const u8, n: usize, m: usize, table: *const f32, table_len: usize, coordinates: *const usize,
         coordinates_len: usize, offset: *mut usize,
     ) -> u32;
+    fn tenahvar_read_clut(
+        element: *const u8, element_len: usize, n: usize, m: usize, sizes: *mut u8, entries: *mut f32, entries_len: usize,
+    ) -> u32;
     fn tenahvar_create_ranged_256(g: u8, x: *mut usize, x_n: *mut usize, w: *mut f32) -> u32;
     fn tenahvar_pyramidal(
         x: *const usize, x_n: *const usize, w: *const f32, g: u8, m: usize, cube: *const f32, cube_len: usize,
@@ -47,6 +50,12 @@ pub fn node(sizes: &[u8; 16], n: usize, m: usize, table: &[f32], coordinates: &[
         tenahvar_node(
             sizes.as_ptr(), n, m, table.as_ptr(), table.len(), coordinates.as_ptr(), coordinates.len(), offset,
         )
+    }
+}
+
+pub fn read_clut(element: &[u8], n: usize, m: usize, sizes: &mut [u8; 16], entries: &mut [f32]) -> u32 {
+    unsafe {
+        tenahvar_read_clut(element.as_ptr(), element.len(), n, m, sizes.as_mut_ptr(), entries.as_mut_ptr(), entries.len())
     }
 }
 

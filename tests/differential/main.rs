@@ -4,9 +4,12 @@
 //! Exit status 0 where all agree; 1 at the first difference, which is then reduced and printed in full.
 
 mod case;
+mod cluts;
 mod cubes;
+mod elements;
 mod exhaustive;
 mod huge;
+mod huge_cluts;
 mod layouts;
 mod library;
 mod limits;
@@ -39,6 +42,8 @@ fn main() {
     random::lookups(run, rng, count);
     random::damaged(run, rng, count / 2);
     cubes::cubes(run, rng, count / 4);
+    elements::all(run, rng, long);
     huge::lookups(run, rng, long);
+    huge_cluts::refused(run);
     run.end();
 }

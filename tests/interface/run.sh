@@ -1,5 +1,5 @@
 #!/bin/bash
-# run.sh: the C header, the Rust binding and both examples against the archive, on this machine's processor. No network.
+# run.sh: the C header, the Rust binding and the examples against the archive, on this machine's processor. No network.
 # TENAHVAR_LIB_DIR names a folder with a libtenahvar.a that is built already.
 set -euo pipefail
 cd "$(dirname "$0")/../.."
@@ -16,6 +16,8 @@ export TENAHVAR_LIB_DIR
 archive=$TENAHVAR_LIB_DIR/libtenahvar.a
 cc=${CC:-cc}
 strict=(-Wall -Wextra -Werror -pedantic -Iinclude)
+calls=(calls clut)
+programs=(tests/interface/{calls,clut,broken}.c examples/{lookup,profile}.c)
 
 # The header's functions and the archive's are the same.
 "$cc" -E -P include/tenahvar.h | grep -o 'tenahvar_[a-z0-9_]* *(' | tr -d ' (' | sort -u >"$work/declared"
@@ -24,50 +26,92 @@ diff "$work/declared" "$work/defined" || { say "declared (<) and defined (>) dif
 say "$(wc -l <"$work/declared") functions declared, each in the archive, and no other there"
 
 # The header in C99 and in C++; every function is called.
-"$cc" -std=c99 "${strict[@]}" tests/interface/calls.c "$archive" -lm -o "$work/calls"
-"$work/calls"
+for file in "${programs[@]}"; do
+    "$cc" -std=c99 "${strict[@]}" "$file" "$archive" -lm -o "$work/$(basename "$file" .c)"
+done
+for program in "${calls[@]}"; do "$work/$program"; done
 if cxx=$(command -v "${CXX:-c++}"); then
-    "$cxx" -x c++ -std=c++11 -fsyntax-only "${strict[@]}" tests/interface/calls.c
+    for program in "${calls[@]}"; do "$cxx" -x c++ -std=c++11 -fsyntax-only "${strict[@]}" "tests/interface/$program.c"; done
     say "the header compiles as C99 and as C++11"
 else
     say "no C++ compiler here: the header was compiled as C99 alone"
 fi
 
-same() { diff examples/lookup.out "$1" || { say "$2 printed something else (>)"; exit 1; }; }
-"$cc" -std=c99 "${strict[@]}" examples/lookup.c "$archive" -lm -o "$work/lookup"
+# What an example prints is held to its file.
+same() { diff "examples/$1.out" "$2" || { say "$3 printed something else (>)"; exit 1; }; }
 "$work/lookup" >"$work/c.out"
-same "$work/c.out" examples/lookup.c
+same lookup "$work/c.out" examples/lookup.c
+
+# Small profiles, of both precisions and both tags that a table may stand in; and every shorter beginning of one of them.
+"$cc" -std=c99 "${strict[@]}" tests/interface/profile.c -o "$work/write-profile"
+rm -rf "$work/profiles"
+mkdir -p "$work/profiles/cut"
+for precision in 1 2; do
+    for tag in A2B1 A2B0; do "$work/write-profile" "$precision" "$tag" "$work/profiles/$precision-$tag"; done
+done
+for ((length = 0; length < $(stat -c %s "$work/profiles/1-A2B1"); length++)); do head -c "$length" "$work/profiles/1-A2B1" >"$work/profiles/cut/$length"; done
+
+# whole COMMAND..: a reader of profiles gives the same colours from each.
+whole() {
+    for profile in "$work"/profiles/?-A2B?; do
+        "$@" "$profile" >"$work/whole.out" || { say "$*: not done on $profile"; exit 1; }
+        same profile "$work/whole.out" "$*"
+    done
+}
+
+# cut_off OUT COMMAND: on a profile that is cut off it complains, or is refused, and ends with status 1. OUT has what it said.
+cut_off() {
+    for profile in "$work"/profiles/cut/*; do
+        local status=0
+        "$2" "$profile" || status=$?
+        [ "$status" = 1 ] || { say "$2: status $status on $profile" >&2; exit 1; }
+    done >"$1"
+}
+whole "$work/profile"
+cut_off "$work/cut-c.out" "$work/profile"
+say "examples/profile.c: 4 profiles are read, $(wc -l <"$work/cut-c.out") that are cut off are not"
+for precision in 1 2; do "$work/broken" "$work/profiles/$precision-A2B1"; done
 
 # The same under the compiler's checks and under valgrind.
 if echo 'int main(void) { return 0; }' | "$cc" -fsanitize=address,undefined -x c - -o "$work/checked" 2>"$work/log" && "$work/checked"; then
-    for file in examples/lookup.c tests/interface/calls.c; do
-        "$cc" -std=c99 -g -fsanitize=address,undefined -fno-sanitize-recover "${strict[@]}" "$file" "$archive" -lm -o "$work/checked"
-        "$work/checked" >"$work/checked.out"
+    for file in "${programs[@]}"; do
+        "$cc" -std=c99 -g -fsanitize=address,undefined -fno-sanitize-recover "${strict[@]}" "$file" "$archive" -lm -o "$work/checked-$(basename "$file" .c)"
     done
+    for program in lookup "${calls[@]}"; do "$work/checked-$program" >"$work/checked.out"; done
+    whole "$work/checked-profile"
+    "$work/checked-broken" "$work/profiles/2-A2B1" >"$work/checked.out"
     say "no finding of the address and undefined-behaviour sanitizers"
 else
     say "the sanitizers are not available here"
 fi
 if command -v valgrind >"$work/log"; then
-    for program in lookup calls; do valgrind -q --error-exitcode=1 "$work/$program" >"$work/valgrind.out"; done
+    grind=(valgrind -q --error-exitcode=1 --leak-check=full)
+    for program in lookup "${calls[@]}"; do "${grind[@]}" "$work/$program" >"$work/valgrind.out"; done
+    whole "${grind[@]}" "$work/profile"
+    "${grind[@]}" "$work/broken" "$work/profiles/1-A2B1" >"$work/valgrind.out"
     say "no finding of valgrind"
 else
     say "valgrind is not available here"
 fi
 
-# The Rust binding, its tests and its example.
+# The Rust binding, its tests and its examples.
 if command -v cargo >"$work/log"; then
     export CARGO_TARGET_DIR=$PWD/$work/cargo
-    (cd bindings/rust && cargo test --offline --quiet && cargo run --offline --quiet --example lookup) >"$work/cargo.out" || { cat "$work/cargo.out"; exit 1; }
+    (cd bindings/rust && cargo test --offline --quiet && cargo build --offline --quiet --examples) >"$work/cargo.out" || { cat "$work/cargo.out"; exit 1; }
     grep '^test result' "$work/cargo.out" | head -n 1
-    tail -n "$(wc -l <examples/lookup.out)" "$work/cargo.out" >"$work/rust.out"
+    built=$CARGO_TARGET_DIR/debug/examples
 else
     link=(--edition 2021 -L "native=$TENAHVAR_LIB_DIR" -l static=tenahvar)
     rustc --test "${link[@]}" bindings/rust/src/lib.rs -o "$work/binding"
     "$work/binding" --quiet
     rustc --crate-type rlib --crate-name tenahvar "${link[@]}" bindings/rust/src/lib.rs -o "$work/libtenahvar.rlib"
-    rustc --edition 2021 --extern "tenahvar=$work/libtenahvar.rlib" examples/lookup.rs -o "$work/lookup-rust"
-    "$work/lookup-rust" >"$work/rust.out"
+    built=$work/rust
+    mkdir -p "$built"
+    for example in lookup profile; do rustc --edition 2021 --extern "tenahvar=$work/libtenahvar.rlib" "examples/$example.rs" -o "$built/$example"; done
 fi
-same "$work/rust.out" examples/lookup.rs
+"$built/lookup" >"$work/rust.out"
+same lookup "$work/rust.out" examples/lookup.rs
+whole "$built/profile"
+cut_off "$work/cut-rust.out" "$built/profile"
+diff "$work/cut-c.out" "$work/cut-rust.out" || { say "of a profile that was cut off examples/profile.c (<) and .rs (>) say different things"; exit 1; }
 say "passed"

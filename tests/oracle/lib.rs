@@ -3,9 +3,10 @@
 //! rounded once, in the order written, and nothing is fused.
 //!
 //! `lookup`, `layout`, `weights`, `pyramidal`, `prismatic` and `trilinear` give the crate's answers for accepted calls.
-//! The refusals are not the crate's: `expected` has them, in the words of document 01's table.
+//! The refusals are not the crate's: `expected` has them, in the words of document 01's table, and `clut` has document 02's CLUT elements.
 
 mod answers;
+pub mod clut;
 mod cubes;
 pub mod expected;
 #[macro_use]

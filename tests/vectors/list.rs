@@ -6,6 +6,12 @@ use std::fmt::Write;
 /// The largest table that `replay` has room for.
 pub const ROOM: usize = 40_000;
 
+/// The longest element that `replay` has room for.
+pub const ELEMENT: usize = 4_096;
+
+/// The longest buffer that an element is read into.
+pub const BUFFER: usize = 4_000;
+
 /// D of a record that is left as it is.
 pub const NO_PLACE: u32 = u32::MAX;
 
@@ -96,7 +102,7 @@ impl Asked {
 pub struct List {
     pub stdin: String,
     pub stdout: String,
-    pub counts: [usize; 10],
+    pub counts: [usize; 11],
     pub entries: usize,
 }
 
@@ -209,5 +215,16 @@ impl List {
     pub fn constant(&mut self, index: u32) {
         self.asks(9, &[&[index]]);
         self.answers(None, List::cell(&oracle::weights(33)[index as usize]));
+    }
+
+    /// 10: a CLUT element, into a buffer with old contents.
+    pub fn clut(&mut self, n: u32, m: u32, old: &Table, element: &[u8]) {
+        let bytes: Vec<u32> = element.iter().map(|&byte| byte as u32).collect();
+        self.asks(10, &[&[n, m], &old.text(), &[bytes.len() as u32], &bytes]);
+        assert!(bytes.len() <= ELEMENT);
+        assert!(old.entries().len() <= BUFFER);
+        let read = oracle::clut::read(element, n as usize, m as usize, &old.entries());
+        self.entries += read.entries.len();
+        self.answers(Some(read.number), read.record.into_iter().chain(read.entries.iter().map(|e| e.to_bits())));
     }
 }

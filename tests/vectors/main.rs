@@ -1,6 +1,7 @@
 //! Writes the vectors that the program `replay` is held to: FOLDER/stdin and FOLDER/stdout. The answers are the oracle's,
 //! the numbers document 01's. The same files come out on every machine.
 
+mod cluts;
 mod list;
 mod lookups;
 mod others;
@@ -22,11 +23,12 @@ fn main() {
     others::layouts(list, rng);
     others::weights(list, rng);
     others::cubes(list, rng);
+    cluts::all(list, rng);
     list.stdin.push_str("0\n");
     std::fs::write(format!("{folder}/stdin"), &list.stdin).expect("stdin is written");
     std::fs::write(format!("{folder}/stdout"), &list.stdout).expect("stdout is written");
-    let names = ["", "lookups", "layouts", "nodes", "weights", "sizes' weights", "pyramids", "prisms", "trilinears", "constant's entries"];
-    let told: Vec<String> = (1..10).map(|k| format!("{} {}", list.counts[k], names[k])).collect();
+    let names = ["", "lookups", "layouts", "nodes", "weights", "sizes' weights", "pyramids", "prisms", "trilinears", "constant's entries", "CLUTs"];
+    let told: Vec<String> = (1..11).map(|k| format!("{} {}", list.counts[k], names[k])).collect();
     println!(
         "vectors: {} cases ({}); stdin {} bytes, stdout {} bytes, {} table entries in all",
         list.counts.iter().sum::<usize>(), told.join(", "), list.stdin.len(), list.stdout.len(), list.entries

@@ -45,6 +45,16 @@ extern "C" {
         offset: &mut usize,
     ) -> u32;
 
+    pub fn tenahvar_read_clut(
+        element: *const u8,
+        element_length: usize,
+        n: usize,
+        m: usize,
+        sizes: &mut [u8; 16],
+        entries: *mut f32,
+        entries_length: usize,
+    ) -> u32;
+
     pub fn tenahvar_create_ranged_256(
         g: u8,
         x: &mut [usize; 256],

@@ -5,86 +5,13 @@
 #![no_std]
 #![warn(missing_docs)]
 
-use core::fmt;
-
 mod c;
+mod refusal;
 #[cfg(test)]
 mod tests;
 
-/// Why a call was refused. The numbers are the library's.
-#[derive(Clone, Copy, Debug, PartialEq, Eq, Hash)]
-#[repr(u32)]
-pub enum Refusal {
-    /// The number of input inks is outside 1..=15.
-    InputInks = 1,
-    /// The number of output inks is outside 1..=15, or for a cube method neither 3 nor 4.
-    OutputInks = 2,
-    /// A size in use is 0.
-    ZeroSize = 3,
-    /// The sizes in use are not equal.
-    UnequalSizes = 4,
-    /// The table would have more than 4,294,967,295 entries.
-    LargeTotal = 5,
-    /// The table is shorter than the layout asks.
-    ShortTable = 6,
-    /// The number of inputs, or of node coordinates, is not that of the input inks.
-    InputCount = 7,
-    /// The answer buffer is shorter than the number of output inks.
-    ShortAnswer = 8,
-    /// A layout record is not one that an accepted layout gives. No function here takes a record.
-    ForeignRecord = 9,
-    /// A node, of a cell or of the coordinates, is outside the grid.
-    OutsideGrid = 10,
-}
-
-impl Refusal {
-    const ALL: [Refusal; 10] = [
-        Refusal::InputInks,
-        Refusal::OutputInks,
-        Refusal::ZeroSize,
-        Refusal::UnequalSizes,
-        Refusal::LargeTotal,
-        Refusal::ShortTable,
-        Refusal::InputCount,
-        Refusal::ShortAnswer,
-        Refusal::ForeignRecord,
-        Refusal::OutsideGrid,
-    ];
-
-    /// The library's number for it, 1 to 10.
-    pub fn number(self) -> u32 {
-        self as u32
-    }
-}
-
-impl fmt::Display for Refusal {
-    fn fmt(&self, f: &mut fmt::Formatter<'_>) -> fmt::Result {
-        f.write_str(match self {
-            Refusal::InputInks => "the number of input inks is outside 1..15",
-            Refusal::OutputInks => "the number of output inks is not one that is accepted",
-            Refusal::ZeroSize => "a grid size in use is 0",
-            Refusal::UnequalSizes => "the grid sizes in use are not equal",
-            Refusal::LargeTotal => "the table would have more than 4,294,967,295 entries",
-            Refusal::ShortTable => "the table is shorter than the layout asks",
-            Refusal::InputCount => {
-                "the number of inputs or coordinates is not that of the input inks"
-            }
-            Refusal::ShortAnswer => "the answer buffer is shorter than the number of output inks",
-            Refusal::ForeignRecord => "the record is not one that an accepted layout gives",
-            Refusal::OutsideGrid => "a node is outside the grid",
-        })
-    }
-}
-
-impl core::error::Error for Refusal {}
-
-/// 0 is done; any other number is a refusal, of which the library has ten.
-fn told(number: u32) -> Result<(), Refusal> {
-    match number {
-        0 => Ok(()),
-        k => Err(Refusal::ALL[k as usize - 1]),
-    }
-}
+use refusal::told;
+pub use refusal::Refusal;
 
 /// What is asked of a layout: only the first `n` sizes count, and they are one value.
 #[derive(Clone, Copy, Debug, PartialEq, Eq)]
@@ -105,6 +32,12 @@ impl Grid {
             n,
             m,
         }
+    }
+
+    /// The entries that a table needs: those from one line of the first ink to its next, for each of its lines. Refusals 1 to 5.
+    pub fn total(&self) -> Result<usize, Refusal> {
+        let rows = layout(self)?;
+        Ok(rows.grid_filling_size[0] as usize * self.sizes[0] as usize)
     }
 }
 
@@ -195,6 +128,25 @@ pub fn node<'a>(
         )
     };
     told(number).map(|()| &table[offset..offset + grid.m])
+}
+
+/// Reads the CLUT element of an ICC.1 lutAToBType for `n` inks in and `m` out: sets the first entries of `entries`, as many as [`Grid::total`] of
+/// the grid that it answers, and no others. Refusals 13, 1 to 5, 14, 15 and 8, in that order.
+pub fn read_clut(element: &[u8], n: usize, m: usize, entries: &mut [f32]) -> Result<Grid, Refusal> {
+    let mut grid = Grid::new(0, n, m);
+    // SAFETY: each pointer goes with its slice's length, and the `&mut` overlap nothing.
+    let number = unsafe {
+        c::tenahvar_read_clut(
+            element.as_ptr(),
+            element.len(),
+            n,
+            m,
+            &mut grid.sizes,
+            entries.as_mut_ptr(),
+            entries.len(),
+        )
+    };
+    told(number).map(|()| grid)
 }
 
 /// The cell of each 8-bit ink code on an axis of `g` lines. Refusal 3.

@@ -1,19 +1,20 @@
 -- `UpTo n x` and `Below n x`: how they come from the value of x and from a comparison, and what follows. `round-upTo`, `round-from`: what rounds from at most, or at least,
--- a whole number that the format holds stays so. `below-share`: what is below 1 lies from 0 to 1. Assumes nothing.
+-- a whole number that the format holds stays so. `upTo-share`, `below-share`: what is up to 1 lies from 0 to 1; `unit-share`: so does a unit. Assumes nothing.
 use mathlib.Core.Path.{refl, sym, subst}
 use Prim.Native.Nat.{ℕ, zero, suc, _+_, _*_, _^_, _≤_, _<_}
-use native.Mathlib.Nat.{le-trans, le-of-eq, le-of-lt, lt-of-le-of-lt, lt-of-lt-of-le, zero-lt-suc, mul-one, mul-right-comm, mul-le-mul-right, mul-lt-mul-of-pos-right, lt-of-mul-lt-mul-right, le-of-mul-le-mul-right}
+use native.Mathlib.Nat.{le-trans, le-of-eq, le-of-lt, lt-of-le-of-lt, lt-of-lt-of-le, zero-lt-suc, mul-one, mul-pos, mul-right-comm, mul-le-mul-right, mul-lt-mul-of-pos-right, lt-of-mul-lt-mul-right, le-of-mul-le-mul-right}
 use native.Mathlib.Omega.{arith}
 use mathlib.Core.Bool.{Bool, true, false, not, _||_, cond, true≢false}
 use lib.Dec.{T, ltb, leb→le, ltb→lt}
 use lib.Ieee.{Float, nan, inf, fin, Format, binary32, prec, emax, low, down, odd, units, round, lt, le, eq, fits}
-use lib.Ieee.Fits.{down-pos, round-is}
+use lib.Ieee.Fits.{down-pos, round-is, round-fits}
 use lib.Ieee.Exact.{HasValue}
 use lib.Ieee.Back.{round-whole}
 use lib.Ieee.Order.{round-mono}
 use lib.Ieee.Positive.{num, den, den-pos}
+use Rattle.binary32.specs.Numbers.{ofWhole, unitOf}
 use Rattle.binary32.specs.Range.{UpTo, Below, Within, Share}
-use Rattle.binary32.proofs.Values.{lt-is, le-is}
+use Rattle.binary32.proofs.Values.{lt-is, le-is, div-values, line-value}
 
 -- ---- from a value, and back
 pub below-value : (x : Float) (n a c : ℕ) → HasValue x false a c → a < n * c → Below n x
@@ -50,15 +51,18 @@ below-upTo n x h = let o = below-own n x h in upTo-value x n (num x) (den x) (de
 pub upTo-below : (n k : ℕ) (x : Float) → n < k → UpTo n x → Below k x
 upTo-below n k x l h = let o = upTo-own n x h in below-value x k (num x) (den x) (o .0) (lt-of-le-of-lt (o .1) (mul-lt-mul-of-pos-right l (den-pos x)))
 
--- a value below 1 is a share
-pub below-share : (x : Float) → T (fits binary32 x) → Below 1 x → Share x
-below-share x F h = record { is-fit = F; within = within x h }
+-- a value up to 1 is a share
+pub upTo-share : (x : Float) → T (fits binary32 x) → UpTo 1 x → Share x
+upTo-share x F h = record { is-fit = F; within = within x h }
   where
-    within : (x : Float) → Below 1 x → Within 0 x
+    within : (x : Float) → UpTo 1 x → Within 0 x
     within nan h = h
     within (inf s) h = h
     within (fin true m e) h = absurd h
-    within (fin false m e) h = omega (arith, mul-le-mul-right (2 ^ 23) (le-of-lt h))
+    within (fin false m e) h = omega (arith, mul-le-mul-right (2 ^ 23) h)
+
+pub below-share : (x : Float) → T (fits binary32 x) → Below 1 x → Share x
+below-share x F h = upTo-share x F (below-upTo 1 x h)
 
 -- ---- from a comparison
 -- the sign is clear, and it is no NaN
@@ -125,3 +129,12 @@ round-from f a b n k B N h r =
     (subst T (le-is (round f false n 1) z n 1 (num z) (den z) (zero-lt-suc 0) (den-pos z) (round-whole f false n N) (below-own k z r .0))
     (round-mono f n 1 a b (zero-lt-suc 0) B (le-trans h (le-of-eq (sym (mul-one a)))))))
     (le-of-eq (mul-one (num z)))
+
+-- ---- v of `most` lies from 0 to 1
+pub unit-share : (most v : ℕ) → 0 < most → most ≤ 2 ^ prec binary32 → v ≤ most → Share (unitOf most v)
+unfolding unitOf
+unit-share most v M P h =
+    let exact = div-values binary32 (ofWhole v) (ofWhole most) v 1 most 1 (zero-lt-suc 0) (zero-lt-suc 0)
+    (line-value binary32 v (le-trans h P)) (line-value binary32 most P) M in
+    subst Share (sym exact) (upTo-share _ (round-fits binary32 false (v * 1) (1 * most))
+    (round-upTo binary32 (v * 1) (1 * most) 1 (mul-pos (zero-lt-suc 0) M) (lt-of-lt-of-le M P) (omega arith)))

@@ -9,6 +9,8 @@ use Rattle.binary32.proofs.fmla.Kinds as fmla-kinds
 use Rattle.binary32.proofs.fmla.Reads as fmla-reads
 use Rattle.binary32.proofs.lerp.Kinds as lerp-kinds
 use Rattle.binary32.proofs.lerp.Reads as lerp-reads
+use Rattle.binary32.proofs.unit.Kinds as unit-kinds
+use Rattle.binary32.proofs.unit.Reads as unit-reads
 
 pub mlaf-unique : OneOutcome 0 mlaf-kinds.ps mlaf-kinds.r mlaf-reads.Post
 mlaf-unique κs a x y ws vs p q = (p ∙ sym q, refl)
@@ -22,6 +24,9 @@ fmla-unique κs a x y ws vs p q = (p ∙ sym q, refl)
 pub lerp-unique : OneOutcome 0 lerp-kinds.ps lerp-kinds.r lerp-reads.Post
 lerp-unique κs a x y ws vs p q = (p ∙ sym q, refl)
 
+pub unit-unique : OneOutcome 0 unit-kinds.ps unit-kinds.r unit-reads.Post
+unit-unique κs a x y ws vs p q = (p ∙ sym q, refl)
+
 -- no `requires`
 pub mlaf-asks-nothing : (κs : _) (a : _) → mlaf-reads.Pre κs a
 mlaf-asks-nothing κs a = tt
@@ -34,3 +39,6 @@ fmla-asks-nothing κs a = tt
 
 pub lerp-asks-nothing : (κs : _) (a : _) → lerp-reads.Pre κs a
 lerp-asks-nothing κs a = tt
+
+pub unit-asks-nothing : (κs : _) (a : _) → unit-reads.Pre κs a
+unit-asks-nothing κs a = tt

@@ -1,16 +1,16 @@
 -- Floats with a clear sign, +0 included, in either format, as exact fractions. `HasValue x s a c`, of `lib.Ieee.Exact`, says that x is finite, has the sign s and is a / c in size.
--- Comparisons: `lt-is`, `le-is`, as one of fractions. Arithmetic: `mul-values`, `add-values`, `sub-values`, the exact fraction rounded once.
+-- Comparisons: `lt-is`, `le-is`, as one of fractions. Arithmetic: `mul-values`, `add-values`, `sub-values`, `div-values`, the exact fraction rounded once.
 -- Values: `line-value`, a whole number up to 2 ^ prec is one; `revalue`, another fraction of the same size; `value-unique`, a number with its sign is written in one way.
 -- Assumes nothing.
-use mathlib.Core.Path.{_≡_, refl, sym, ap, _∙_}
-use Prim.Native.Nat.{ℕ, _+_, _-_, _*_, _/_, _^_, _≤_, _<_}
-use native.Mathlib.Nat.{le-of-lt, le-of-eq, lt-of-not-le, eq-or-lt-of-le, add-mul, mul-sub, zero-mul, mul-comm, mul-right-comm, mul-mul-mul-comm, mul-pos, eq-of-mul-eq-mul-right}
+use mathlib.Core.Path.{_≡_, refl, sym, ap, _∙_, subst}
+use Prim.Native.Nat.{ℕ, zero, suc, _+_, _-_, _*_, _/_, _^_, _≤_, _<_}
+use native.Mathlib.Nat.{le-of-lt, le-of-eq, lt-of-not-le, eq-or-lt-of-le, add-mul, mul-sub, zero-mul, mul-comm, mul-right-comm, mul-mul-mul-comm, mul-pos, eq-of-mul-eq-mul-right, zero-lt-suc, lt-irrefl}
 use native.Mathlib.Decide.{decLe}
 use mathlib.Core.Bool.{Bool, true, false, not, _&&_, _||_, cond, true≢false}
 use mathlib.Core.Logic.{inl, inr}
 use lib.Dec.{T, leb, ltb, eqb}
 use lib.IntN.{ℤ, pos}
-use lib.Ieee.{Float, nan, inf, fin, Format, prec, low, up, down, round, mul, add, sub, sum, lt, le, ofInt, fits, size, top, hid, toBits, ofBits}
+use lib.Ieee.{Float, nan, inf, fin, Format, prec, low, up, down, round, mul, add, sub, div, sum, lt, le, ofInt, fits, size, top, hid, toBits, ofBits}
 use lib.Ieee.Fits.{down-pos}
 use lib.Ieee.Exact.{HasValue}
 use lib.Ieee.Back.{round-whole}
@@ -91,6 +91,16 @@ over-right y g b d e c q = ap (λ (z : ℕ). y * e * z) (mul-comm c d) ∙ over-
 sub-mul : (a b k : ℕ) → (a - b) * k ≡ a * k - b * k
 sub-mul a b k = mul-comm (a - b) k ∙ mul-sub k a b ∙ ap (λ (z : ℕ). z - k * b) (mul-comm k a) ∙ ap (λ (z : ℕ). a * k - z) (mul-comm k b)
 
+-- x / e is a / c and y / g is b / d: a quotient
+quotient : (x e a c y g b d : ℕ) → x * c ≡ a * e → y * d ≡ b * g → x * g * (c * b) ≡ a * d * (y * e)
+quotient x e a c y g b d p q =
+    mul-mul-mul-comm x g c b ∙ ap (λ (z : ℕ). z * (g * b)) p ∙ ap (λ (z : ℕ). a * e * z) (mul-comm g b ∙ sym q ∙ mul-comm y d) ∙ mul-mul-mul-comm a e d y ∙ ap (λ (z : ℕ). a * d * z) (mul-comm e y)
+
+-- what is above 0 as one fraction is so as another
+not-zero : (y d b g : ℕ) → 0 < b → 0 < g → y * d ≡ b * g → 0 < y
+not-zero zero d b g B G e = absurd (lt-irrefl 0 (subst (λ (k : ℕ). 0 < k) (sym e ∙ zero-mul d) (mul-pos B G)))
+not-zero (suc y) d b g B G e = zero-lt-suc y
+
 -- a difference that is not negative
 difference : (f : Format) (a b c : ℕ) → b ≤ a → sum f false a true b c ≡ round f false (a - b) c
 unfolding sum
@@ -124,6 +134,15 @@ module _ (f : Format) (x y : Float) (a c b d : ℕ) (C : 0 < c) (D : 0 < d) (p :
       ∙ ap (λ (z : ℕ). z - n * up g * down e * (c * d)) (over-left (m * up e) (down e) a c (down g) d p)
       ∙ ap (λ (z : ℕ). a * d * (down e * down g) - z) (over-right (n * up g) (down g) b d (down e) c q)
       ∙ sym (sub-mul (a * d) (b * c) (down e * down g)))) x y p q
+
+  pub div-values : 0 < b → div f x y ≡ round f false (a * d) (c * b)
+  unfolding div
+  div-values B =
+      as-written a c b d (λ (x y : Float). div f x y ≡ round f false (a * d) (c * b))
+      (λ m e n g p q. let some : 0 < n * up g = not-zero (n * up g) d b (down g) B (down-pos g) q in
+      (simp (ne-eqb n 0 (λ (z : n ≡ 0). lt-irrefl 0 (rw (zero-mul (up g)) at (subst (λ (k : ℕ). 0 < k * up g) z some)))))
+      ∙ round-same f false (m * up e * down g) (n * up g * down e) (a * d) (c * b) (mul-pos some (down-pos e)) (mul-pos C B)
+      (quotient (m * up e) (down e) a c (n * up g) (down g) b d p q)) x y p q
 
 -- ---- values
 pub line-value : (f : Format) (n : ℕ) → n ≤ 2 ^ prec f → HasValue (ofInt f (pos n)) false n 1

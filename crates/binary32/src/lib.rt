@@ -2,6 +2,7 @@
 // rounded once, in the order written. The laws about them are in `proofs/`.
 ghost use mathlib.Core.Path.{_≡_};
 ghost use Rattle.binary32.specs.Blend as Blend;
+ghost use Rattle.binary32.specs.Numbers.{unitOf};
 
 // The sum of s and the product of a and b.
 pub fn mlaf(s: f32, a: f32, b: f32) -> f32
@@ -29,4 +30,11 @@ pub fn lerp(a: f32, b: f32, t: f32) -> f32
     ensures { λ r. ⌜ r ≡ Blend.lerp a b t ⌝ }
 {
     (a - a * t) + b * t
+}
+
+// v of `most` as a number from 0 to 1: one rounded division.
+pub fn unit(v: u16, most: u16) -> f32
+    ensures { λ r. ⌜ r ≡ unitOf most v ⌝ }
+{
+    v as f32 / most as f32
 }

@@ -1,34 +1,21 @@
 -- What a call that is not refused has passed.
 -- Assumes nothing.
 use Prim.Native.Nat.{ℕ, _≤_, _<_}
-use mathlib.Core.Path.{_≡_, refl}
-use mathlib.Core.Bool.{Bool, true, false, cond, not, _&&_, _||_}
-use native.Mathlib.Decide.{decLe}
+use mathlib.Core.Path.{_≡_}
+use mathlib.Core.Logic.{⊎-elim}
+use mathlib.Core.Bool.{true, not, _&&_, _||_}
 use native.Mathlib.Omega.{arith}
 use lib.Dec.{ltb, eqb}
-use borrow.Author.Tests.{ltb-true, ltb-false, ne-eqb, not-false}
+use borrow.Author.Tests.{ltb-true, ltb-false, not-false}
 use Rattle.cell.specs.declared.Cell.{Cell}
 use Rattle.layout.specs.Layout.{total}
-use Rattle.lists.proofs.Lists.{and-left, and-right}
+use Rattle.outcome.proofs.Refused.{passed}
+use Rattle.lists.proofs.Lists.{and-left, and-right, one-of}
 use Rattle.cubes.specs.Cube.{sizes, onGrid, refusal}
 use Rattle.cubes.specs.Corners.{Inside}
 
 pub few : (m : ℕ) → (eqb m 3 || eqb m 4) ≡ true → m ≤ 4
-few m h =
-    elim (decLe m 4) [
-      | yes low ↦ low
-      | no high ↦
-          let three = ne-eqb m 3 (λ e. omega arith) in
-          let four = ne-eqb m 4 (λ e. omega arith) in
-          let never : false ≡ true = rw (three, four) at h in
-          let z : _≡_ {A = ℕ} 0 1 = cc in
-          omega arith
-    ]
-
--- a test that did not refuse
-passed : (b : Bool) (k r : ℕ) → (k ≡ 0 → ⊥) → cond b k r ≡ 0 → (b ≡ false) × (r ≡ 0)
-passed true k r some h = absurd (some h)
-passed false k r some h = (refl, h)
+few m h = ⊎-elim (λ e. omega arith) (λ e. omega arith) (one-of m 3 4 h)
 
 on-grid : (c : Cell) (g : ℕ) → onGrid c g ≡ true → (c .x < g) × (c .«x_n» < g)
 unfolding onGrid

@@ -19,14 +19,21 @@ Answer = MultidimensionalLut → List Float → List Float → ℕ → Float
 abbrev pub OnLine : MultidimensionalLut → Float → ℕ → Type 0
 OnLine lut x k = productOf x (lut .«grid_size») ≡ line k
 
--- where all inks fall on grid lines, listed first ink first, each answer is the entry stored at that node
-abbrev pub AtANode : Answer → Type 0
-AtANode answer = (lut : MultidimensionalLut) → IsLayout lut → (table : List Float) → Shares table (entries lut) → (xs : List Float) (lines : List ℕ)
+-- in one table: where all inks fall on grid lines, listed first ink first, each answer is the entry stored at that node
+abbrev pub NodesKept : Answer → MultidimensionalLut → List Float → Type 0
+NodesKept answer lut table = (xs : List Float) (lines : List ℕ)
     → length lines ≡ lut .«input_inks» → ((i : ℕ) → i < lut .«input_inks» → OnLine lut (getD xs i nan) (getD lines i 0))
     → (o : ℕ) → o < lut .«output_inks» → Same (answer lut table xs o) (output lut table o (reverse lines))
 
--- an ink j, counted from 1, that may be cut and falls on grid line k can be left out, in the slab at that line
-abbrev pub OnALine : Answer → Type 0
-OnALine answer = (lut : MultidimensionalLut) → IsLayout lut → (table : List Float) → Shares table (entries lut) → (xs : List Float) (j k : ℕ)
+-- in one table: an ink j, counted from 1, that may be cut and falls on grid line k can be left out, in the slab at that line
+abbrev pub LinesCut : Answer → MultidimensionalLut → List Float → Type 0
+LinesCut answer lut table = (xs : List Float) (j k : ℕ)
     → Cuttable j (lut .«input_inks») → OnLine lut (getD xs (j - 1) nan) k
     → (o : ℕ) → o < lut .«output_inks» → Same (answer lut table xs o) (answer (fewer lut) (slab lut table j k) (without (j - 1) xs) o)
+
+-- for every accepted layout and every table whose entries are from 0 to 1
+abbrev pub AtANode : Answer → Type 0
+AtANode answer = (lut : MultidimensionalLut) → IsLayout lut → (table : List Float) → Shares table (entries lut) → NodesKept answer lut table
+
+abbrev pub OnALine : Answer → Type 0
+OnALine answer = (lut : MultidimensionalLut) → IsLayout lut → (table : List Float) → Shares table (entries lut) → LinesCut answer lut table

@@ -5,6 +5,8 @@ use Rattle.outcome.specs.Outcome.{OneOutcome}
 use Rattle.outcome.proofs.Decided.{decided}
 use Rattle.layout.proofs.layout.Kinds as layout-kinds
 use Rattle.layout.proofs.layout.Reads as layout-reads
+use Rattle.layout.proofs.refused.Kinds as refused-kinds
+use Rattle.layout.proofs.refused.Reads as refused-reads
 use Rattle.layout.proofs.filling_sizes.Kinds as filling-sizes-kinds
 use Rattle.layout.proofs.filling_sizes.Reads as filling-sizes-reads
 use Rattle.layout.proofs.is_layout.Kinds as is-layout-kinds
@@ -16,6 +18,9 @@ use Rattle.layout.proofs.entry_offset.Reads as entry-offset-reads
 
 pub layout-unique : OneOutcome 0 layout-kinds.ps layout-kinds.r layout-reads.Post
 layout-unique κs a x y ws vs p q = (p ∙ sym q, refl)
+
+pub refused-unique : OneOutcome 0 refused-kinds.ps refused-kinds.r refused-reads.Post
+refused-unique κs a x y ws vs p q = (p ∙ sym q, refl)
 
 pub filling-sizes-unique : OneOutcome 2 filling-sizes-kinds.ps filling-sizes-kinds.r filling-sizes-reads.Post
 filling-sizes-unique κs a x y ws vs p q =
@@ -34,6 +39,9 @@ entry-offset-unique κs a x y ws vs p q = ((λ i. record { 0 = (p ∙ sym q) i }
 -- no `requires`
 pub layout-asks-nothing : (κs : _) (a : _) → layout-reads.Pre κs a
 layout-asks-nothing κs a = tt
+
+pub refused-asks-nothing : (κs : _) (a : _) → refused-reads.Pre κs a
+refused-asks-nothing κs a = tt
 
 pub filling-sizes-asks-nothing : (κs : _) (a : _) → filling-sizes-reads.Pre κs a
 filling-sizes-asks-nothing κs a = tt

@@ -49,7 +49,7 @@ pub fn entry_count(lut: MultidimensionalLut) -> u64
 }
 
 // A refusal has a record of zeros.
-fn refused(number: u32) -> Laid
+pub fn refused(number: u32) -> Laid
     ensures { λ r. ⌜ r ≡ refusedBy number ⌝ }
 {
     let lut = MultidimensionalLut {

@@ -1,2 +1,4 @@
 pub mod Lists
 pub mod Buffer
+pub mod Bytes
+pub mod Unique

@@ -1,7 +1,8 @@
 -- Laws of the lists, tests and products of specs/Lists.antt.
 -- Assumes nothing.
 use mathlib.Core.Path.{_≡_, refl, sym, _∙_, ap}
-use mathlib.Core.Bool.{Bool, true, false, _&&_}
+use mathlib.Core.Bool.{Bool, true, false, _&&_, _||_, true≢false}
+use mathlib.Core.Logic.{_⊎_, inl, inr}
 use mathlib.Core.List.{List, [], _∷_, _++_, reverse, reverse-cons, reverse-append}
 use Prim.Native.Nat.{ℕ, zero, suc, _-_, _*_, _^_, _≤_, _<_, suc-le-suc}
 use native.Mathlib.Nat.{sub-zero, zero-sub, suc-sub-suc, mul-one, one-mul, mul-assoc, mul-pos, le-refl, mul-le-mul-left, le-of-suc-le-suc, not-suc-le-zero, pow-zero, pow-succ'}
@@ -60,6 +61,15 @@ and-left false b h = h
 pub and-right : (a b : Bool) → (a && b) ≡ true → b ≡ true
 and-right true b h = h
 and-right false b h = let z : true ≡ false = sym h in cc
+
+-- a number that is one of two
+pub one-of : (m a b : ℕ) → (eqb m a || eqb m b) ≡ true → (m ≡ a) ⊎ (m ≡ b)
+one-of m a b = go (eqb m a) (eqb m b) refl refl
+  where
+    go : (x y : Bool) → eqb m a ≡ x → eqb m b ≡ y → (x || y) ≡ true → (m ≡ a) ⊎ (m ≡ b)
+    go true y p q h = inl (eqb-true m a p)
+    go false true p q h = inr (eqb-true m b q)
+    go false false p q h = absurd (true≢false (sym h))
 
 and-not : (a b : Bool) → b ≡ false → (a && b) ≡ false
 and-not true b h = h
@@ -132,6 +142,11 @@ bytes-at (x ∷ xs) t (suc i) = bytes-at xs (and-r (ltb x 256) (areBytes xs) t) 
 pub are-bytes : (xs : List ℕ) → ((i : ℕ) → getD xs i 0 < 256) → T (areBytes xs)
 are-bytes [] each = tt
 are-bytes (x ∷ xs) each = simp (lt-ltb x 256 (each 0)) (are-bytes xs (λ i. each (suc i)))
+
+pub tabulate-bytes : (k : ℕ) (f : ℕ → ℕ) → ((i : ℕ) → f i < 256) → T (areBytes (tabulate k f))
+unfolding tabulate
+tabulate-bytes zero f each = tt
+tabulate-bytes (suc k) f each = simp (lt-ltb (f 0) 256 (each 0)) (tabulate-bytes k (λ i. f (suc i)) (λ i. each (suc i)))
 
 -- every element is g: the list repeats it
 pub all-are : (g : ℕ) (xs : List ℕ) → every (eqb g) xs ≡ true → xs ≡ replicate (length xs) g

@@ -1,12 +1,24 @@
 -- A call that gave r, which is the number k: on a refusal k is the first that applies, and what was lent stays as it was.
 -- Assumes nothing.
 use Prim.Native.Nat.{ℕ, zero, suc}
+use native.Mathlib.Nat.{suc-ne-zero}
 use mathlib.Core.Path.{_≡_, refl, ap}
+use mathlib.Core.Bool.{Bool, true, false, cond}
 use Rattle.outcome.specs.Outcome.{orElse, onDone}
 
 pub refused-first : {r : ℕ} (k next : ℕ) → (r ≡ 0 → ⊥) → r ≡ k → r ≡ orElse k next
 refused-first zero next refused number = absurd (refused number)
 refused-first (suc k) next refused number = number
+
+-- none of two refuses
+pub neither : (k next : ℕ) → orElse k next ≡ 0 → (k ≡ 0) × (next ≡ 0)
+neither zero next h = (refl, h)
+neither (suc k) next h = absurd (suc-ne-zero k h)
+
+-- a test that did not refuse
+pub passed : (b : Bool) (k r : ℕ) → (k ≡ 0 → ⊥) → cond b k r ≡ 0 → (b ≡ false) × (r ≡ 0)
+passed true k r some h = absurd (some h)
+passed false k r some h = (refl, h)
 
 module _ {A : Type 0} where
   pub kept : {r : ℕ} (k : ℕ) (new old : A) → (r ≡ 0 → ⊥) → r ≡ k → old ≡ onDone k new old

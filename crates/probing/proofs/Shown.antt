@@ -24,7 +24,7 @@ use Rattle.layout.proofs.Laws.{inks-to, outputs-from, outputs-to}
 use Rattle.lookup.specs.Table.{answerAt, refusal, Looked}
 use Rattle.probing.specs.Text.{newLine, ok, refused, headOf, spaced, bitsOf, report}
 use Rattle.probing.specs.Put.{Put}
-use Rattle.probing.specs.Probe.{limit, unitOf, shown, probeOutput, Probed}
+use Rattle.probing.specs.Probe.{limit, codeOf, shown, probeOutput, Probed}
 use Rattle.probing.proofs.Stores.{put-length}
 use Rattle.probing.proofs.Digits.{length-head, length-spaced}
 
@@ -57,11 +57,11 @@ pub record Asked (input bytes : List ℕ) (g n m : ℕ) (laid : Laid) : Type 0 w
   pub laid-is : laid ≡ laidOf (replicate 16 g) n m
 
 module _ {input bytes : List ℕ} {g n m : ℕ} {laid : Laid} (asked : Asked input bytes g n m laid) where
-  output : probeOutput input ≡ shown laid (map unitOf (take n (drop 3 bytes))) (map unitOf (drop n (drop 3 bytes)))
+  output : probeOutput input ≡ shown laid (map codeOf (take n (drop 3 bytes))) (map codeOf (drop n (drop 3 bytes)))
   unfolding probeOutput
   output =
-      let whole : List ℕ → List ℕ = λ bs. shown (laidOf (replicate 16 (getD bs 0 0)) (getD bs 1 0) (getD bs 2 0)) (map unitOf (take (getD bs 1 0) (drop 3 bs))) (map unitOf (drop (getD bs 1 0) (drop 3 bs))) in
-      let parts : List ℕ → ℕ → Laid → List ℕ = λ bs k l. shown l (map unitOf (take k (drop 3 bs))) (map unitOf (drop k (drop 3 bs))) in
+      let whole : List ℕ → List ℕ = λ bs. shown (laidOf (replicate 16 (getD bs 0 0)) (getD bs 1 0) (getD bs 2 0)) (map codeOf (take (getD bs 1 0) (drop 3 bs))) (map codeOf (drop (getD bs 1 0) (drop 3 bs))) in
+      let parts : List ℕ → ℕ → Laid → List ℕ = λ bs k l. shown l (map codeOf (take k (drop 3 bs))) (map codeOf (drop k (drop 3 bs))) in
       ap whole (sym (asked .bytes-are))
       ∙ (λ i. parts bytes (sym (asked .n-is) i) (laidOf (replicate 16 (sym (asked .g-is) i)) (sym (asked .n-is) i) (sym (asked .m-is) i)))
       ∙ ap (parts bytes n) (sym (asked .laid-is))
@@ -93,18 +93,18 @@ module _ {input bytes : List ℕ} {g n m : ℕ} {laid : Laid} (asked : Asked inp
     outputs-up-to = (omega (arith, outputs, outputs-from (laid .lut) is-layout), omega (arith, outputs, outputs-to (laid .lut) is-layout))
 
     module _ {rest codes table : List ℕ} (rest-is : rest ≡ drop 3 bytes) (codes-are : codes ≡ take n rest) (table-is : table ≡ drop n rest)
-        {old now : List Float} {r : ℕ} (room : length old ≡ 15) (looked : Looked (laid .lut) (map unitOf table) (map unitOf codes) old r now) where
-      number : r ≡ refusal true (laid .lut) (length (map unitOf table)) (length (map unitOf codes)) 15
-      number = looked .number ∙ (λ i. refusal (looked .decides .found is-layout i) (laid .lut) (length (map unitOf table)) (length (map unitOf codes)) (room i))
+        {old now : List Float} {r : ℕ} (room : length old ≡ 15) (looked : Looked (laid .lut) (map codeOf table) (map codeOf codes) old r now) where
+      number : r ≡ refusal true (laid .lut) (length (map codeOf table)) (length (map codeOf codes)) 15
+      number = looked .number ∙ (λ i. refusal (looked .decides .found is-layout i) (laid .lut) (length (map codeOf table)) (length (map codeOf codes)) (room i))
 
       answers : ℕ → Float
-      answers = answerAt (laid .lut) (map unitOf table) (map unitOf codes)
+      answers = answerAt (laid .lut) (map codeOf table) (map codeOf codes)
 
       shown-so : probeOutput input ≡ report r (tabulate m answers)
       unfolding shown answers
       shown-so =
           output
-          ∙ (λ i. shown laid (map unitOf (sym (codes-are ∙ ap (take n) rest-is) i)) (map unitOf (sym (table-is ∙ ap (drop n) rest-is) i)))
+          ∙ (λ i. shown laid (map codeOf (sym (codes-are ∙ ap (take n) rest-is) i)) (map codeOf (sym (table-is ∙ ap (drop n) rest-is) i)))
           ∙ (λ i. report (orElse (accepted i) (sym number i)) (tabulate (outputs i) answers))
 
       pub lookup-refuses : (r ≡ 0 → ⊥) → probeOutput input ≡ report r []

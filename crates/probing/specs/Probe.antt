@@ -3,9 +3,9 @@ use Prim.Native.Nat.{ℕ, _≤_}
 use mathlib.Core.Path.{_≡_}
 use mathlib.Core.Bool.{true}
 use mathlib.Core.List.{List, _++_, map}
-use lib.Ieee.{Float, binary32, div}
+use lib.Ieee.{Float}
 use lib.ListN.{length, getD, take, drop, replicate}
-use Rattle.binary32.specs.Numbers.{ofWhole}
+use Rattle.binary32.specs.Numbers.{unitOf}
 use Rattle.outcome.specs.Outcome.{orElse}
 use Rattle.lists.specs.Lists.{tabulate}
 use Rattle.layout.specs.declared.Laid.{Laid}
@@ -18,8 +18,8 @@ abbrev pub limit : ℕ
 limit = 16384
 
 -- an ink code or a table byte v becomes v / 255, rounded once
-unfoldable pub unitOf : ℕ → Float
-unitOf v = div binary32 (ofWhole v) (ofWhole 255)
+abbrev pub codeOf : ℕ → Float
+codeOf v = unitOf 255 v
 
 -- the report of a lookup with an answer buffer of 15 places, where the layout is accepted
 unfoldable pub shown : Laid → List Float → List Float → List ℕ
@@ -33,7 +33,7 @@ probeOutput input =
     let bytes = take limit input in
     let n = getD bytes 1 0 in
     let rest = drop 3 bytes in
-    shown (laidOf (replicate 16 (getD bytes 0 0)) n (getD bytes 2 0)) (map unitOf (take n rest)) (map unitOf (drop n rest))
+    shown (laidOf (replicate 16 (getD bytes 0 0)) n (getD bytes 2 0)) (map codeOf (take n rest)) (map codeOf (drop n rest))
 
 -- what `probed` owes: r bytes at the start of the buffer, which was `old`, are the output, and nothing past them changed
 pub record Probed (input old : List ℕ) (r : ℕ) (now : List ℕ) : Type 0 where

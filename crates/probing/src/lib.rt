@@ -6,19 +6,9 @@ use layout::MultidimensionalLut;
 ghost use mathlib.Core.Path.{_≡_};
 ghost use mathlib.Core.List.{map};
 ghost use Prim.Native.Nat.{_≤_};
-ghost use lib.ListN.{length, getD, take, drop};
+ghost use lib.ListN.{length, take, drop};
 ghost use Rattle.lookup.specs.Table.{Looked};
-ghost use Rattle.probing.specs.Probe.{unitOf, Probed};
-
-// The byte at a place, 0 where it is missing.
-fn byte_at(bytes: &[u8], place: usize) -> u8
-    ensures { λ r. ⌜ r ≡ getD (now (bytes .entry)) place 0 ⌝ }
-{
-    if place < bytes.len() {
-        return bytes[place];
-    }
-    0
-}
+ghost use Rattle.probing.specs.Probe.{codeOf, Probed};
 
 // The first bytes, up to a count.
 fn first(bytes: &[u8], count: usize) -> &[u8]
@@ -44,7 +34,7 @@ fn from(bytes: &[u8], place: usize) -> &[u8]
 fn looked(lut: MultidimensionalLut, codes: &[u8], table: &[u8], answers: &mut [f32]) -> u32
     requires { ⌜ length (now codes) ≤ 15 ⌝ }
     requires { ⌜ length (now table) ≤ 16384 ⌝ }
-    ensures { λ r. ⌜ Looked lut (map unitOf (now (table .entry))) (map unitOf (now (codes .entry))) (now (answers .entry)) r (now (answers .exit)) ⌝ }
+    ensures { λ r. ⌜ Looked lut (map codeOf (now (table .entry))) (map codeOf (now (codes .entry))) (now (answers .entry)) r (now (answers .exit)) ⌝ }
 {
     let mut inputs = [0.0f32; 15];
     units::units(codes, &mut inputs);
@@ -60,9 +50,9 @@ pub fn probed(input: &[u8], out: &mut [u8; 141]) -> usize
     ensures { λ r. ⌜ Probed (now (input .entry)) (now (out .entry)) r (now (out .exit)) ⌝ }
 {
     let bytes = first(input, 16384);
-    let g = byte_at(bytes, 0);
-    let n = byte_at(bytes, 1) as usize;
-    let m = byte_at(bytes, 2) as usize;
+    let g = lists::byte_at(bytes, 0);
+    let n = lists::byte_at(bytes, 1) as usize;
+    let m = lists::byte_at(bytes, 2) as usize;
     let laid = layout::layout([g; 16], n, m);
     let refusal = laid.refusal;
     if refusal != 0 {

@@ -43,7 +43,7 @@ fn sizes(head: &[usize; 18]) -> [u8; 16] {
     sizes
 }
 
-fn places(lut: MultidimensionalLut) {
+pub(crate) fn places(lut: MultidimensionalLut) {
     let strides = lut.grid_strides;
     let filling = lut.grid_filling_size;
     let scale = lut.grid_scale;

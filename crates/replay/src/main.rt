@@ -1,5 +1,6 @@
 // Reads a list of calls, makes each with the proved crates and prints what came back. tests/vectors says how the list is written.
 mod calls;
+mod elements;
 mod floats;
 mod print;
 mod record;
@@ -29,17 +30,20 @@ fn case(kind: u32, text: &[u8], from: usize, table: &mut [f32]) -> usize {
     if kind == 9 {
         return calls::constant(text, from);
     }
+    if kind == 10 {
+        return elements::clut(text, from, table);
+    }
     calls::cube(kind, text, from, table)
 }
 
-// The cases up to a kind that is 0 or above 9. Each has a byte at least, so there are no more than bytes.
+// The cases up to a kind that is 0 or above 10. Each has a byte at least, so there are no more than bytes.
 fn cases(text: &[u8], table: &mut [f32]) {
     let mut at: usize = 0;
     let mut left = text.len();
     while left > 0 {
         let w = words::word(text, at);
         let kind = w.value;
-        if kind == 0 || kind > 9 {
+        if kind == 0 || kind > 10 {
             break;
         }
         at = case(kind, text, w.next, table);

@@ -15,6 +15,8 @@ use Rattle.tenahvar.proofs.tenahvar_lookup.Kinds as lookup-kinds
 use Rattle.tenahvar.proofs.tenahvar_lookup.Reads as lookup-reads
 use Rattle.tenahvar.proofs.tenahvar_node.Kinds as node-kinds
 use Rattle.tenahvar.proofs.tenahvar_node.Reads as node-reads
+use Rattle.tenahvar.proofs.tenahvar_read_clut.Kinds as read-clut-kinds
+use Rattle.tenahvar.proofs.tenahvar_read_clut.Reads as read-clut-reads
 use Rattle.tenahvar.proofs.tenahvar_create_ranged_256.Kinds as create-ranged-256-kinds
 use Rattle.tenahvar.proofs.tenahvar_create_ranged_256.Reads as create-ranged-256-reads
 use Rattle.tenahvar.proofs.tenahvar_pyramidal.Kinds as pyramidal-kinds
@@ -40,6 +42,12 @@ pub tenahvar-node-unique : OneOutcome 4 node-kinds.ps node-kinds.r node-reads.Po
 tenahvar-node-unique κs a x y ws vs p q =
     let offset = p .offset ∙ sym (q .offset) in
     (p .number ∙ sym (q .number), λ i. (tt, (tt, (tt, (tt, (tt, (offset i, tt)))))))
+
+pub tenahvar-read-clut-unique : OneOutcome 3 read-clut-kinds.ps read-clut-kinds.r read-clut-reads.Post
+tenahvar-read-clut-unique κs a x y ws vs p q =
+    let sizes = p .sizes ∙ sym (q .sizes) in
+    let table = p .table ∙ sym (q .table) in
+    (p .number ∙ sym (q .number), λ i. (tt, (tt, (tt, (sizes i, (table i, tt))))))
 
 pub tenahvar-create-ranged-256-unique : OneOutcome 3 create-ranged-256-kinds.ps create-ranged-256-kinds.r create-ranged-256-reads.Post
 tenahvar-create-ranged-256-unique κs a x y ws vs p q =
@@ -73,6 +81,9 @@ tenahvar-lookup-asks-nothing κs a = tt
 
 pub tenahvar-node-asks-nothing : (κs : _) (a : _) → node-reads.Pre κs a
 tenahvar-node-asks-nothing κs a = tt
+
+pub tenahvar-read-clut-asks-nothing : (κs : _) (a : _) → read-clut-reads.Pre κs a
+tenahvar-read-clut-asks-nothing κs a = tt
 
 pub tenahvar-create-ranged-256-asks-nothing : (κs : _) (a : _) → create-ranged-256-reads.Pre κs a
 tenahvar-create-ranged-256-asks-nothing κs a = tt

@@ -1,5 +1,6 @@
--- What each exported function owes: a layout (Layout), a node's place (Node), the weights of 8-bit codes (Weights), the cube methods (Cubes). A lookup owes what lookup's own by sizes does.
+-- What each exported function owes: a layout (Layout), a node's place (Node), the weights of 8-bit codes (Weights), the cube methods (Cubes), a CLUT element read (Clut). A lookup owes what lookup's own by sizes does.
 pub mod Layout
 pub mod Node
 pub mod Weights
 pub mod Cubes
+pub mod Clut

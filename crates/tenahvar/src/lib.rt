@@ -7,6 +7,7 @@ ghost use Rattle.lookup.specs.Table.{LookedBySizes};
 ghost use Rattle.tenahvar.specs.Node.{NodeFound};
 ghost use Rattle.tenahvar.specs.Weights.{RangedInto};
 ghost use Rattle.tenahvar.specs.Cubes.{BlendedAt};
+ghost use Rattle.tenahvar.specs.Clut.{ClutTaken};
 
 // The layout's number; on 0 the record's three rows are written, on a refusal nothing is.
 #[no_mangle]
@@ -79,6 +80,26 @@ pub extern "C" fn tenahvar_node(
     }
     let first = lookup::node_offset(lut, table, coordinates);
     *offset = first.0 as usize;
+    0
+}
+
+// Reads a CLUT element: refusals 13, 1 to 5, 14, 15, 8. On 0 `sizes` is the element's and the first total places of `entries` are set;
+// with them the profile is no longer needed.
+#[no_mangle]
+pub extern "C" fn tenahvar_read_clut(
+    element: &[u8],
+    n: usize,
+    m: usize,
+    sizes: &mut [u8; 16],
+    entries: &mut [f32],
+) -> u32
+    ensures { λ r. ⌜ ClutTaken (now (element .entry)) n m (now (sizes .entry)) (now (entries .entry)) r (now (sizes .exit)) (now (entries .exit)) ⌝ }
+{
+    let read = clut::read_clut(element, n, m, entries);
+    if read.refusal != 0 {
+        return read.refusal;
+    }
+    *sizes = clut::sizes_of(element);
     0
 }
 

@@ -12,18 +12,9 @@ use Rattle.probing.specs.Probe.{probeOutput}
 use Rattle.probing.proofs.Shown.{Asked, layout-refuses, inks-up-to, outputs-up-to, lookup-refuses, lookup-answers, refusal-fits, answers-fit, table-fits, probed-of}
 use Rattle.probing.proofs.probed.Statement.{statement}
 use Rattle.probing.proofs.probed.Tie as tie
-use Rattle.probing.proofs.probed.Reads as reads
-use Rattle.probing.proofs.probed.Lts as lts
-use Rattle.probing.proofs.first.Reads as first-reads
-use Rattle.probing.proofs.byte_at.Reads as byte-at-reads
-use Rattle.layout.proofs.layout.Reads as layout-reads
-use Rattle.probing.proofs.text.refused.Reads as refused-reads
-use Rattle.probing.proofs.from.Reads as from-reads
-use Rattle.probing.proofs.looked.Reads as looked-reads
-use Rattle.probing.proofs.text.accepted.Reads as accepted-reads
 
 -- once the layout is asked
-asked : (c : lts.After-layout (first-reads.Asked, first-reads.Learnt, byte-at-reads.Asked, byte-at-reads.Learnt, layout-reads.Asked, layout-reads.Learnt, refused-reads.Asked, refused-reads.Learnt, from-reads.Asked, from-reads.Learnt, looked-reads.Asked, looked-reads.Learnt, accepted-reads.Asked, accepted-reads.Learnt) reads.Pre reads.Post)
+asked : (c : tie.After-layout)
     → Asked (c .before .before .before .before .before .before .args .input .now) (c .before .before .before .before .first .result .now) (c .before .before .before .byte-at .result) (c .before .before .byte-at2 .result) (c .before .byte-at3 .result) (c .layout .result)
 asked c =
     record {
@@ -34,11 +25,11 @@ asked c =
       laid-is = c .layout .ensures;
     }
 
-byte : (c : lts.After-layout (first-reads.Asked, first-reads.Learnt, byte-at-reads.Asked, byte-at-reads.Learnt, layout-reads.Asked, layout-reads.Learnt, refused-reads.Asked, refused-reads.Learnt, from-reads.Asked, from-reads.Learnt, looked-reads.Asked, looked-reads.Learnt, accepted-reads.Asked, accepted-reads.Learnt) reads.Pre reads.Post) → c .before .before .before .byte-at .result < 256
+byte : (c : tie.After-layout) → c .before .before .before .byte-at .result < 256
 byte c = omega arith
 
 -- once the layout has accepted
-module _ (c : lts.Else1 (first-reads.Asked, first-reads.Learnt, byte-at-reads.Asked, byte-at-reads.Learnt, layout-reads.Asked, layout-reads.Learnt, refused-reads.Asked, refused-reads.Learnt, from-reads.Asked, from-reads.Learnt, looked-reads.Asked, looked-reads.Learnt, accepted-reads.Asked, accepted-reads.Learnt) reads.Pre reads.Post) where
+module _ (c : tie.Else1) where
   inks : c .before .before .before .byte-at2 .result ≤ 15
   inks = inks-up-to (asked (c .before)) (byte (c .before)) (c .if1 .left)
 
@@ -46,7 +37,7 @@ module _ (c : lts.Else1 (first-reads.Asked, first-reads.Learnt, byte-at-reads.As
   outputs = outputs-up-to (asked (c .before)) (byte (c .before)) (c .if1 .left)
 
 -- once the lookup has answered
-module _ (c : lts.After-looked (first-reads.Asked, first-reads.Learnt, byte-at-reads.Asked, byte-at-reads.Learnt, layout-reads.Asked, layout-reads.Learnt, refused-reads.Asked, refused-reads.Learnt, from-reads.Asked, from-reads.Learnt, looked-reads.Asked, looked-reads.Learnt, accepted-reads.Asked, accepted-reads.Learnt) reads.Pre reads.Post) where
+module _ (c : tie.After-looked) where
   refuses : (c .looked .result ≡ 0 → ⊥) → probeOutput (c .before .before .before .before .before .before .before .before .before .before .before .before .before .args .input .now) ≡ report (c .looked .result) []
   refuses h =
       let laid = c .before .before .before .before .before .before .before in

@@ -8,8 +8,9 @@ use native.Mathlib.Omega.{arith}
 use lib.Ieee.{Float}
 use lib.ListN.{length, getD, take, set, length-set}
 use lib.Seq.{take-suc-set, take-all}
-use borrow.Author.Needs.{needs}
-use Rattle.probing.specs.Probe.{unitOf}
+use mir.Syntax.{w16}
+use borrow.Author.Needs.{needs, fits-under}
+use Rattle.probing.specs.Probe.{codeOf}
 use Rattle.probing.proofs.units.units.Statement.{statement}
 use Rattle.probing.proofs.units.units.Tie as tie
 
@@ -20,21 +21,21 @@ map-next f (b ∷ bytes) zero h = refl
 map-next f (b ∷ bytes) (suc i) h = ap (λ (l : List Float). f b ∷ l) (map-next f bytes i (le-of-suc-le-suc h))
 
 abbrev Inv-loop : tie.InvT-loop
-Inv-loop bytes into₀ i₀ into i = (i ≤ length bytes) × (length into ≡ length into₀) × (take i into ≡ map unitOf (take i bytes))
+Inv-loop bytes into₀ i₀ into i = (i ≤ length bytes) × (length into ≡ length into₀) × (take i into ≡ map codeOf (take i bytes))
 
 abbrev μ-loop : tie.MeasureT-loop
 μ-loop bytes into₀ i₀ into i = length bytes - i
 
-step : (into : List Float) (bytes : List ℕ) (i : ℕ) (x : Float) → i < length into → i < length bytes → take i into ≡ map unitOf (take i bytes)
-    → x ≡ unitOf (getD bytes i 0) → take (suc i) (set into i x) ≡ map unitOf (take (suc i) bytes)
+step : (into : List Float) (bytes : List ℕ) (i : ℕ) (x : Float) → i < length into → i < length bytes → take i into ≡ map codeOf (take i bytes)
+    → x ≡ codeOf (getD bytes i 0) → take (suc i) (set into i x) ≡ map codeOf (take (suc i) bytes)
 step into bytes i x room h e value =
-    take-suc-set into i x room ∙ (λ j. e j ++ (value j ∷ [])) ∙ sym (map-next unitOf bytes i h)
+    take-suc-set into i x room ∙ (λ j. e j ++ (value j ∷ [])) ∙ sym (map-next codeOf bytes i h)
 
-all-done : (into : List Float) (bytes : List ℕ) (i : ℕ) → i ≤ length bytes → length bytes ≤ i → take i into ≡ map unitOf (take i bytes)
-    → take (length bytes) into ≡ map unitOf bytes
+all-done : (into : List Float) (bytes : List ℕ) (i : ℕ) → i ≤ length bytes → length bytes ≤ i → take i into ≡ map codeOf (take i bytes)
+    → take (length bytes) into ≡ map codeOf bytes
 all-done into bytes i le ge e =
     let last : length bytes ≡ i = omega arith in
-    ap (λ (k : ℕ). take k into) last ∙ e ∙ ap (map unitOf) (take-all i bytes ge)
+    ap (λ (k : ℕ). take k into) last ∙ e ∙ ap (map codeOf) (take-all i bytes ge)
 
 pub units-spec : {M : Type 1} → statement M
 units-spec =
@@ -44,6 +45,7 @@ units-spec =
     μ-loop
     (λ c. (omega arith, refl, refl))
     (λ c. search needs)
+    (λ c. fits-under w16 _ 256 (c .shared-slice-known2 .given _ .fits) tt)
     (λ c κs. search needs)
     (λ c. search needs)
     (λ c. search needs)
