@@ -155,17 +155,17 @@ static void order(void) {
     EXPECT(done(28, 2, 1, 4, 4));
 }
 
-/* Every value of one byte, and the first, last and crosswise ones of two. */
+/* Every value of one byte; of two the first, the last, crosswise ones and 257, whose quotient is not its product with a rounded 1/65535. */
 static void values(void) {
     put(16, 1);
     for (int first = 0; first < 256; first += 16) {
         for (int e = 0; e < 16; e++) element[HEAD + e] = (uint8_t)(first + e);
         EXPECT(done(HEAD + 16, 1, 1, 16, 16));
     }
-    const uint8_t pairs[] = {0, 0, 0, 1, 1, 0, 0, 255, 255, 0, 127, 255, 128, 0, 255, 255};
-    put(8, 2);
+    const uint8_t pairs[] = {0, 0, 0, 1, 1, 0, 0, 255, 255, 0, 127, 255, 128, 0, 255, 255, 1, 1};
+    put(9, 2);
     memcpy(element + HEAD, pairs, sizeof pairs);
-    EXPECT(done(HEAD + sizeof pairs, 1, 1, 9, 8));
+    EXPECT(done(HEAD + sizeof pairs, 1, 1, 10, 9));
     EXPECT(same(entries[0], 0.0f) && same(entries[7], 1.0f) && same(entries[3], 255.0f / 65535.0f) && same(entries[4], 65280.0f / 65535.0f));
 }
 

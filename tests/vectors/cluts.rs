@@ -31,14 +31,15 @@ pub fn all(list: &mut List, rng: &mut Rng) {
     random(list, rng);
 }
 
-/// All values of one byte; of two bytes those at the ends and those that differ by the order of their bytes.
+/// All values of one byte; of two bytes those at the ends, those that differ by the order of their bytes, and 257, whose quotient a product with a
+/// rounded 1/65535 misses.
 fn values(list: &mut List, rng: &mut Rng) {
     let mut one = element(rng, 16, 2, 1, 0);
     one.extend(0..=255);
     read(list, rng, 2, 1, 258, &one);
-    let mut two = element(rng, 3, 2, 2, 0);
-    two.extend([0, 1, 0x00FF, 0x0100, 0x7FFF, 0x8000, 0x1234, 0xFF00, 0xFFFF_u16].into_iter().flat_map(u16::to_be_bytes));
-    read(list, rng, 2, 1, 11, &two);
+    let mut two = element(rng, 10, 1, 2, 0);
+    two.extend([0, 1, 0x00FF, 0x0100, 0x0101, 0x7FFF, 0x8000, 0x1234, 0xFF00, 0xFFFF_u16].into_iter().flat_map(u16::to_be_bytes));
+    read(list, rng, 1, 1, 12, &two);
 }
 
 /// Small sizes and counts of each sort in both precisions, with what is needed and a little more.
