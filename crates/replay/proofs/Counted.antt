@@ -1,10 +1,19 @@
--- A count that is no more than a list's length counts the first elements.
+-- Buffers of any element: `counted`, a count that is no more than a list's length counts the first elements; `Filled`, what holds after i turns of a loop that
+-- fills a buffer, one place a turn; `filled-next`, one turn more.
 -- Assumes nothing.
-use Prim.Native.Nat.{ℕ, _≤_}
+use Prim.Native.Nat.{ℕ, _+_, _≤_, _<_}
 use mathlib.Core.Path.{_≡_, sym}
 use mathlib.Core.List.{List}
-use lib.ListN.{length, take}
+use native.Mathlib.Omega.{arith}
+use lib.ListN.{length, take, set, length-set}
 use lib.Seq.{length-take-le}
 
 pub counted : {A : Type 0} (r : ℕ) (l : List A) → r ≤ length l → (r ≤ length l) × (r ≡ length (take r l))
 counted r l h = (h, sym (length-take-le r l h))
+
+pub record Filled {A : Type 0} (old new : List A) (i : ℕ) : Type 0 where
+  pub within : i ≤ length old
+  pub same-length : length new ≡ length old
+
+pub filled-next : {A : Type 0} {old new : List A} {i : ℕ} (x : A) → i < length new → Filled old new i → Filled old (set new i x) (i + 1)
+filled-next x h filled = record { within = omega (arith, filled .same-length); same-length = simp length-set (filled .same-length) }

@@ -18,7 +18,7 @@ fn fitting(count: usize, buffer: &[u8]) -> usize
 }
 
 // The next words as the bytes of a buffer, and the place after them.
-fn read(text: &[u8], from: usize, into: &mut [u8]) -> usize {
+fn bytes(text: &[u8], from: usize, into: &mut [u8]) -> usize {
     let mut next = from;
     let mut i = 0;
     while i < into.len() {
@@ -36,13 +36,13 @@ pub(crate) fn clut(text: &[u8], from: usize, table: &mut [f32]) -> usize {
     let old = floats::table(text, at, table);
     let t = floats::fitting(old.count, table);
     let count = words::word(text, old.next);
-    let mut bytes = [0u8; 4096];
-    let c = fitting(count.value as usize, &bytes);
+    let mut element = [0u8; 4096];
+    let c = fitting(count.value as usize, &element);
     show(
         head[0],
         head[1],
         &mut table[..t],
-        &mut bytes[..c],
+        &mut element[..c],
         text,
         count.next,
     )
@@ -57,7 +57,7 @@ fn show(
     text: &[u8],
     from: usize,
 ) -> usize {
-    let next = read(text, from, element);
+    let next = bytes(text, from, element);
     let laid = clut::read_clut(element, n, m, entries);
     print::number(laid.refusal as u64);
     calls::places(laid.lut);
