@@ -6,7 +6,7 @@ use mathlib.Core.List.{List}
 use lib.Ieee.{Float}
 use Rattle.cubes.specs.declared.Method.{Method}
 use Rattle.cubes.specs.declared.Method.the-variants.{Pyramidal, Prismatic, Trilinear}
-use Rattle.cubes.specs.Blends.{Eight, Blend}
+use Rattle.cubes.specs.Blends.{Eight}
 use Rattle.cubes.specs.Cube.{entriesAt}
 use Rattle.cubes.specs.Corners.{startsOf, startAt, cornersOf, cornerAt, blendOf}
 

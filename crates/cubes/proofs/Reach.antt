@@ -1,9 +1,9 @@
 -- Where the corners stand: a corner's node is in the cube, and its m entries are in the table.
 -- Assumes nothing.
 use Prim.Native.Nat.{ℕ, _+_, _*_, _≤_, _<_}
-use mathlib.Core.Path.{_≡_, refl, sym, ap, _∙_}
+use mathlib.Core.Path.{_≡_}
 use mathlib.Core.Bool.{Bool, true, false}
-use mathlib.Core.List.{List, [], _∷_}
+use mathlib.Core.List.{[], _∷_}
 use native.Mathlib.Nat.{mul-zero, add-zero, mul-one, mul-comm, add-comm, mul-assoc, mul-le-mul, le-trans}
 use native.Mathlib.Omega.{arith}
 use Rattle.cell.specs.declared.Cell.{Cell}

@@ -8,7 +8,6 @@ use Rattle.cubes.specs.declared.Method.the-variants.{Pyramidal, Prismati
 use Rattle.cubes.specs.declared.Starts.{Starts}
 use Rattle.cubes.specs.declared.Corners.{Corners}
 use Rattle.cubes.specs.Blends.{Eight, Blend, named, pyramid, prism, trilinear}
-use Rattle.cubes.specs.Cube.{node}
 
 -- which of eight values stands at a corner
 abbrev pub pick : {A : Type 0} → A → A → A → A → A → A → A → A → Eight A

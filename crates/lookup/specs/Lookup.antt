@@ -1,7 +1,6 @@
 -- What a lookup means, over a grid function: f takes a node's coordinates, LAST INK FIRST, to the entry stored there. The cells come last ink first too.
 -- Definitions only.
 use Prim.Native.Nat.{ℕ}
-use mathlib.Core.Bool.{true, false}
 use mathlib.Core.List.{List, [], _∷_}
 use lib.Ieee.{Float}
 use Rattle.binary32.specs.Blend.{lerp, along, square, tetra}

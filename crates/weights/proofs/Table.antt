@@ -10,7 +10,6 @@ use lib.ListN.{getD}
 use borrow.Author.Tests.{eqb-true, not-true}
 use Rattle.lists.specs.Lists.{tabulate, every}
 use Rattle.lists.proofs.Lists.{length-tabulate, getD-tabulate, every-at, and-left, and-right}
-use Rattle.weights.specs.declared.Entry.{Entry}
 use Rattle.weights.specs.Rule.{entry33}
 
 -- an entry is the rule's, and its bits are no NaN's

@@ -1,6 +1,6 @@
 -- Each public function asks nothing of its caller, and its statement leaves one outcome.
 -- Assumes nothing.
-use mathlib.Core.Path.{_≡_, refl, sym, _∙_}
+use mathlib.Core.Path.{refl, sym, _∙_}
 use Rattle.outcome.specs.Outcome.{OneOutcome}
 use Rattle.weights.proofs.ranged_256.Kinds as ranged-256-kinds
 use Rattle.weights.proofs.ranged_256.Reads as ranged-256-reads

@@ -1,14 +1,11 @@
 -- `cubes::write_answers` meets its contract: each turn writes one answer. Assumes nothing.
-use Prim.Native.Nat.{ℕ, _-_, _≤_}
+use Prim.Native.Nat.{_-_, _≤_}
 use mathlib.Core.Path.{_≡_, refl, ap, _∙_}
 use native.Mathlib.Omega.{arith}
 use borrow.Author.Needs.{needs}
-use lib.Ieee.{Float}
 use lib.ListN.{length, length-set}
 use Rattle.lists.specs.Buffer.{written}
 use Rattle.lists.proofs.Buffer.{written-next}
-use Rattle.cubes.specs.declared.Method.{Method}
-use Rattle.cubes.specs.declared.Starts.{Starts}
 use Rattle.cubes.specs.declared.Corners.{Corners}
 use Rattle.cubes.specs.Cube.{entriesAt}
 use Rattle.cubes.specs.Corners.{startAt, cornerAt, blendOf}

@@ -1,6 +1,5 @@
 -- `lookup::node_refusal` meets its contract: each number is that of the first test that fails. Assumes nothing.
-use Prim.Native.Nat.{ℕ}
-use mathlib.Core.Path.{ap, subst}
+use mathlib.Core.Path.{subst}
 use mathlib.Core.Bool.{Bool, cond}
 use borrow.Author.Needs.{needs}
 use Rattle.lookup.specs.Node.{NodeRefused}

@@ -1,6 +1,6 @@
 -- `tenahvar::tenahvar_layout` meets its contract: the number and the rows are those of the layout that it asks for.
 -- Assumes nothing.
-use mathlib.Core.Path.{_≡_, sym, ap, _∙_}
+use mathlib.Core.Path.{sym, ap, _∙_}
 use borrow.Author.Needs.{needs}
 use Rattle.outcome.proofs.Refused.{kept, given}
 use Rattle.layout.specs.declared.Laid.{Laid}

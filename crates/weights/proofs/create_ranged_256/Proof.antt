@@ -1,7 +1,7 @@
 -- `weights::create_ranged_256` meets its contract. The loop's invariant: the codes before `index` have their cells, the others zeros.
 -- Assumes nothing.
 use Prim.Native.Nat.{ℕ, _+_, _-_, _≤_}
-use mathlib.Core.Path.{_≡_, refl, _∙_}
+use mathlib.Core.Path.{_≡_, refl}
 use mathlib.Core.List.{List}
 use native.Mathlib.Omega.{arith}
 use borrow.Author.Needs.{needs}
@@ -11,7 +11,6 @@ use lib.ListN.{length, set, replicate}
 use Rattle.cell.specs.declared.Cell.{Cell}
 use Rattle.lists.specs.Buffer.{written}
 use Rattle.lists.proofs.Buffer.{written-next, written-whole}
-use Rattle.weights.specs.declared.Ranged.{Ranged}
 use Rattle.weights.specs.Rule.{zeroCell, scaleOf, cellOf, weightCell, ranged}
 use Rattle.weights.proofs.create_ranged_256.Statement.{statement}
 use Rattle.weights.proofs.create_ranged_256.Tie as tie

@@ -6,7 +6,6 @@ use lib.Dec.{T}
 use lib.Ieee.{binary32, ofBits, fits}
 use lib.Ieee.Bits.{ofBits-toBits}
 use lib.Ieee.Fits.{sub-fits}
-use Rattle.cell.specs.declared.Cell.{Cell}
 use Rattle.weights.specs.declared.Entry.{Entry}
 use Rattle.weights.specs.Rule.{cellOf, weightCell, entry33}
 use Rattle.weights.proofs.ranged_33.Statement.{statement}

@@ -2,7 +2,6 @@
 use mathlib.Core.Path.{ap}
 use Prim.Native.Nat.{ℕ, _+_, _*_, _≤_}
 use native.Mathlib.Omega.{arith}
-use borrow.Author.Needs.{needs}
 use Rattle.cubes.proofs.Reach.{node-number, square-small, node-small, entry-small}
 use Rattle.cubes.proofs.places.start.Statement.{statement}
 use Rattle.cubes.proofs.places.start.Tie as tie

@@ -1,13 +1,13 @@
 -- `cubes::refusals::checked` meets its contract: at each return the tests on the way decide the definition's. Assumes nothing.
 use Prim.Native.Nat.{_*_, _≤_}
 use mathlib.Core.Path.{_≡_, sym, _∙_}
-use mathlib.Core.Bool.{true, false, _&&_, _||_}
+use mathlib.Core.Bool.{true, false, _||_}
 use native.Mathlib.Omega.{arith}
 use lib.Dec.{ltb, eqb}
 use borrow.Author.Needs.{needs}
 use borrow.Author.Tests.{not-true, not-false, eq-eqb, ne-eqb, lt-ltb, le-ltb}
 use Rattle.layout.specs.Layout.{total}
-use Rattle.cubes.specs.Cube.{sizes, onGrid, refusal}
+use Rattle.cubes.specs.Cube.{sizes, refusal}
 use Rattle.cubes.proofs.Reach.{total-is, square-small, node-small, entry-small}
 use Rattle.cubes.proofs.Accepted.{few}
 use Rattle.cubes.proofs.refusals.checked.Statement.{statement}

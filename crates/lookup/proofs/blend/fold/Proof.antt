@@ -1,7 +1,7 @@
 -- `lookup::blend::fold` meets its contract: each turn reads an entry that no turn has set yet, and sets it. Assumes nothing.
-use Prim.Native.Nat.{ℕ, _-_}
+use Prim.Native.Nat.{_-_}
 use native.Mathlib.Omega.{arith}
-use mathlib.Core.Path.{_≡_, ap, _∙_}
+use mathlib.Core.Path.{ap, _∙_}
 use lib.Ieee.{Float, nan}
 use lib.ListN.{getD}
 use Rattle.binary32.specs.Blend.{lerp}

@@ -1,5 +1,5 @@
 -- `lookup::check::refused` meets its contract: 9 where the record is no layout's, else what the sizes say. Assumes nothing.
-use mathlib.Core.Path.{_≡_, sym, ap, _∙_}
+use mathlib.Core.Path.{sym, ap, _∙_}
 use mathlib.Core.Bool.{Bool, cond, not}
 use Prim.Native.Nat.{ℕ}
 use borrow.Author.Tests.{not-false}

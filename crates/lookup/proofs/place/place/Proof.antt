@@ -1,5 +1,5 @@
 -- `lookup::place::place` meets its contract: after i turns the first i of the inks stand at their places. Assumes nothing.
-use Prim.Native.Nat.{ℕ, _-_, _≤_, _<_}
+use Prim.Native.Nat.{_-_, _≤_}
 use native.Mathlib.Omega.{arith}
 use mathlib.Core.Path.{_≡_, sym}
 use Rattle.lookup.proofs.Filling.{Filled, filled-none, turn}
