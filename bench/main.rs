@@ -1,7 +1,8 @@
 //! Time of one lookup, the library's and the Rust text's side by side: same machine, same table, same inputs, both for
 //! release. First both must give the same bits at every input.
 //!
-//! Then the time of reading a CLUT element, beside a plain Rust loop: the crate's own reading rounds twice.
+//! Then the time of reading a CLUT element, beside a plain Rust loop: the crate's own reading rounds twice. Then that of cutting a slab, which the
+//! crate does not, beside a plain Rust loop too.
 //!
 //! The Rust text is compiled with document 01's helpers, its record is made once and its call checks nothing but what a
 //! slice does. The library's call lays out and checks every refusal each time.
@@ -41,6 +42,36 @@ fn main() {
     for precision in [1, 2] {
         let (rust, library) = reading(rng, precision);
         println!("{precision:>9} {rust:>12.2} {library:>12.2} {:>14.2}", library / rust);
+    }
+    println!("ns per entry of a slab cut, g 17, n 4, m 3");
+    println!("{:>9} {:>12} {:>12} {:>14}", "ink", "Rust loop", "library", "library/Rust");
+    for j in 1..=4 {
+        let (rust, library) = cutting(rng, j);
+        println!("{j:>9} {rust:>12.3} {library:>12.3} {:>14.2}", library / rust);
+    }
+}
+
+/// The best time of each, in ns for one entry of the slab of ink j at line 8.
+fn cutting(rng: &mut values::Rng, j: usize) -> (f64, f64) {
+    let table: Vec<f32> = (0..17usize.pow(4) * 3).map(|_| rng.unit()).collect();
+    let (mut a, mut b) = (vec![0.0f32; table.len() / 17], vec![1.0f32; table.len() / 17]);
+    let mut best = (f64::MAX, f64::MAX);
+    for _ in 0..20 * ROUNDS {
+        let began = Instant::now();
+        rust_runs(black_box(&table), 17usize.pow(4 - j as u32) * 3, black_box(8), &mut a);
+        best.0 = best.0.min(began.elapsed().as_nanos() as f64);
+        let began = Instant::now();
+        assert_eq!(library::cut_slab(&[17; 16], 4, 3, black_box(&table), j, black_box(8), &mut b), 0);
+        best.1 = best.1.min(began.elapsed().as_nanos() as f64);
+    }
+    assert!(a == b, "ink {j}: not the same slab");
+    (best.0 / a.len() as f64, best.1 / a.len() as f64)
+}
+
+/// What one would write: of every 17 runs of entries, as long as one line of the ink, the one of line k.
+fn rust_runs(table: &[f32], run: usize, k: usize, slab: &mut [f32]) {
+    for (part, lines) in slab.chunks_exact_mut(run).zip(table.chunks_exact(17 * run)) {
+        part.copy_from_slice(&lines[k * run..][..run]);
     }
 }
 

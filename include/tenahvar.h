@@ -25,9 +25,11 @@ extern "C" {
 #define TENAHVAR_LARGE_TOTAL 5     /* the total is above 4,294,967,295 */
 #define TENAHVAR_SHORT_TABLE 6     /* the table is shorter than the total */
 #define TENAHVAR_INPUT_COUNT 7     /* the number of inputs, or of node coordinates, is not n */
-#define TENAHVAR_SHORT_ANSWER 8    /* a buffer to be written is too short: shorter than m, or for a CLUT than the total */
+#define TENAHVAR_SHORT_ANSWER 8    /* a buffer to be written is too short: shorter than m, or for a CLUT or a slab than its total */
 #define TENAHVAR_FOREIGN_RECORD 9  /* a layout record is not one that an accepted layout gives: no function below takes a record */
 #define TENAHVAR_OUTSIDE_GRID 10   /* a node, of a cell or of the coordinates, is outside 0..g-1 */
+#define TENAHVAR_NO_SUCH_INK 11    /* the ink to cut is not one of 1..n, or n is 1 */
+#define TENAHVAR_NO_SUCH_LINE 12   /* the line to cut at is not below g */
 #define TENAHVAR_SHORT_ELEMENT 13  /* a CLUT element has under 20 bytes */
 #define TENAHVAR_PRECISION 14      /* a CLUT element's precision is neither 1 nor 2 */
 #define TENAHVAR_SHORT_DATA 15     /* a CLUT element has too little data for the total */
@@ -58,6 +60,15 @@ uint32_t tenahvar_node(const uint8_t sizes[16], size_t n, size_t m,
  * others. What was read is for the functions above, with the same n and m; the element is needed no more. */
 uint32_t tenahvar_read_clut(const uint8_t *element, size_t element_length, size_t n, size_t m,
                             uint8_t sizes[16], float *entries, size_t entries_length);
+
+/* Cuts out the table that remains when ink j, counted from 1, stands on grid line k, counted from 0: the slab, g^(n-1) * m entries. It holds, bit for bit and
+ * in their old order, the entries of the nodes whose coordinate for ink j is k. Refusals 1 to 5, then 6, 11, 12, 8.
+ * On 0 it sets the first entries of `slab`, as many as the slab has, and no others. The slab is a table for the functions here: for a lookup in it with the
+ * other inks' inputs give the same sizes and m, and n-1 inks. */
+uint32_t tenahvar_cut_slab(const uint8_t sizes[16], size_t n, size_t m,
+                           const float *table, size_t table_length,
+                           size_t j, size_t k,
+                           float *slab, size_t slab_length);
 
 /* For each 8-bit ink code its lower node, upper node and weight on an axis of g lines: refusal 3. */
 uint32_t tenahvar_create_ranged_256(uint8_t g, size_t x[256], size_t x_n[256], float w[256]);

@@ -15,6 +15,10 @@ extern "C" {
     fn tenahvar_read_clut(
         element: *const u8, element_len: usize, n: usize, m: usize, sizes: *mut u8, entries: *mut f32, entries_len: usize,
     ) -> u32;
+    fn tenahvar_cut_slab(
+        sizes: *const u8, n: usize, m: usize, table: *const f32, table_len: usize, j: usize, k: usize, slab: *mut f32,
+        slab_len: usize,
+    ) -> u32;
     fn tenahvar_create_ranged_256(g: u8, x: *mut usize, x_n: *mut usize, w: *mut f32) -> u32;
     fn tenahvar_pyramidal(
         x: *const usize, x_n: *const usize, w: *const f32, g: u8, m: usize, cube: *const f32, cube_len: usize,
@@ -57,6 +61,10 @@ pub fn read_clut(element: &[u8], n: usize, m: usize, sizes: &mut [u8; 16], entri
     unsafe {
         tenahvar_read_clut(element.as_ptr(), element.len(), n, m, sizes.as_mut_ptr(), entries.as_mut_ptr(), entries.len())
     }
+}
+
+pub fn cut_slab(sizes: &[u8; 16], n: usize, m: usize, table: &[f32], j: usize, k: usize, slab: &mut [f32]) -> u32 {
+    unsafe { tenahvar_cut_slab(sizes.as_ptr(), n, m, table.as_ptr(), table.len(), j, k, slab.as_mut_ptr(), slab.len()) }
 }
 
 pub fn create_ranged_256(g: u8, x: &mut [usize; 256], x_n: &mut [usize; 256], w: &mut [f32; 256]) -> u32 {

@@ -6,16 +6,20 @@
 mod case;
 mod cluts;
 mod cubes;
+mod down;
 mod elements;
 mod exhaustive;
+mod fixed;
 mod huge;
 mod huge_cluts;
+mod huge_slabs;
 mod layouts;
 mod library;
 mod limits;
 mod lookups;
 mod nodes;
 mod random;
+mod slabs;
 mod values;
 
 fn main() {
@@ -45,5 +49,9 @@ fn main() {
     elements::all(run, rng, long);
     huge::lookups(run, rng, long);
     huge_cluts::refused(run);
+    slabs::all(run, rng, long);
+    fixed::all(run, rng, long);
+    down::all(run, rng, long);
+    huge_slabs::all(run, rng, long);
     run.end();
 }

@@ -13,9 +13,14 @@ pub fn counts(rng: &mut Rng, bound: u128) -> (u8, usize, usize) {
         _ => rng.within(1, 4),
     };
     let m = if rng.one_in(4) { rng.within(1, 15) } else { rng.within(1, 4) };
+    (size(rng, n, m, bound), n, m)
+}
+
+/// A size for these counts, by the same bound.
+pub fn size(rng: &mut Rng, n: usize, m: usize, bound: u128) -> u8 {
     let bound = if n > 8 { 40_000 } else { bound };
     let largest = (2..=255).take_while(|&g| expected::total(g, n, m) <= bound).last().unwrap_or(1);
-    (rng.within(1, largest as usize) as u8, n, m)
+    rng.within(1, largest as usize) as u8
 }
 
 /// A random accepted call: sizes after the first n are anything, the table and the buffer may be longer than needed.

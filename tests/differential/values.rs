@@ -63,11 +63,16 @@ pub const ENTRIES: [u32; 16] = [
     0x7F7F_FFFF, 0xFF7F_FFFF, 0x7F80_0000, 0xFF80_0000, 0x7FC0_0000, 0x7F80_0001,
 ];
 
-/// An input whose rounded product with g−1 is exactly p, if there is one.
-pub fn with_product(g: u8, p: f32) -> Option<f32> {
+/// The inputs around p/(g−1) whose rounded product with g−1 is exactly p.
+pub fn with_products(g: u8, p: f32) -> impl Iterator<Item = f32> {
     let scale = f32::from(g - 1);
     let near = (p / scale).to_bits();
-    (near.saturating_sub(3)..=near + 3).map(f32::from_bits).find(|&x| x <= 1.0 && x * scale == p)
+    (near.saturating_sub(3)..=near + 3).map(f32::from_bits).filter(move |&x| x <= 1.0 && x * scale == p)
+}
+
+/// An input whose rounded product with g−1 is exactly p, if there is one.
+pub fn with_product(g: u8, p: f32) -> Option<f32> {
+    with_products(g, p).next()
 }
 
 /// The inputs whose product is just under a power of two: there p+1 skips a node for inks 5 and up.

@@ -16,8 +16,17 @@ export TENAHVAR_LIB_DIR
 archive=$TENAHVAR_LIB_DIR/libtenahvar.a
 cc=${CC:-cc}
 strict=(-Wall -Wextra -Werror -pedantic -Iinclude)
-calls=(calls clut)
-programs=(tests/interface/{calls,clut,broken}.c examples/{lookup,profile}.c)
+calls=(calls clut slab)   # tests of the header
+shown=(lookup slab)       # examples that need no profile
+programs=(tests/interface/{calls,clut,slab,broken}.c examples/{lookup,slab,profile}.c)
+
+# compiled FOLDER FLAG..: every program, in FOLDER/tests or FOLDER/examples.
+compiled() {
+    mkdir -p "$1/tests" "$1/examples"
+    for file in "${programs[@]}"; do
+        "$cc" -std=c99 "${@:2}" "${strict[@]}" "$file" "$archive" -lm -o "$1/${file%%/*}/$(basename "$file" .c)"
+    done
+}
 
 # The header's functions and the archive's are the same.
 "$cc" -E -P include/tenahvar.h | grep -o 'tenahvar_[a-z0-9_]* *(' | tr -d ' (' | sort -u >"$work/declared"
@@ -26,10 +35,8 @@ diff "$work/declared" "$work/defined" || { say "declared (<) and defined (>) dif
 say "$(wc -l <"$work/declared") functions declared, each in the archive, and no other there"
 
 # The header in C99 and in C++; every function is called.
-for file in "${programs[@]}"; do
-    "$cc" -std=c99 "${strict[@]}" "$file" "$archive" -lm -o "$work/$(basename "$file" .c)"
-done
-for program in "${calls[@]}"; do "$work/$program"; done
+compiled "$work/c"
+for program in "${calls[@]}"; do "$work/c/tests/$program"; done
 if cxx=$(command -v "${CXX:-c++}"); then
     for program in "${calls[@]}"; do "$cxx" -x c++ -std=c++11 -fsyntax-only "${strict[@]}" "tests/interface/$program.c"; done
     say "the header compiles as C99 and as C++11"
@@ -37,10 +44,17 @@ else
     say "no C++ compiler here: the header was compiled as C99 alone"
 fi
 
-# What an example prints is held to its file.
+# same NAME OUT WHO: what an example printed is held to its file.
 same() { diff "examples/$1.out" "$2" || { say "$3 printed something else (>)"; exit 1; }; }
-"$work/lookup" >"$work/c.out"
-same lookup "$work/c.out" examples/lookup.c
+
+# examples FOLDER COMMAND..: the examples in FOLDER that need no profile, each run by COMMAND if there is one.
+examples() {
+    for example in "${shown[@]}"; do
+        "${@:2}" "$1/$example" >"$work/shown.out" || { say "$1/$example: not done"; exit 1; }
+        same "$example" "$work/shown.out" "$1/$example"
+    done
+}
+examples "$work/c/examples"
 
 # Small profiles, of both precisions and both tags that a table may stand in; and every shorter beginning of one of them.
 "$cc" -std=c99 "${strict[@]}" tests/interface/profile.c -o "$work/write-profile"
@@ -67,28 +81,28 @@ cut_off() {
         [ "$status" = 1 ] || { say "$2: status $status on $profile" >&2; exit 1; }
     done >"$1"
 }
-whole "$work/profile"
-cut_off "$work/cut-c.out" "$work/profile"
+whole "$work/c/examples/profile"
+cut_off "$work/cut-c.out" "$work/c/examples/profile"
 say "examples/profile.c: 4 profiles are read, $(wc -l <"$work/cut-c.out") that are cut off are not"
-for precision in 1 2; do "$work/broken" "$work/profiles/$precision-A2B1"; done
+for precision in 1 2; do "$work/c/tests/broken" "$work/profiles/$precision-A2B1"; done
 
 # The same under the compiler's checks and under valgrind.
-if echo 'int main(void) { return 0; }' | "$cc" -fsanitize=address,undefined -x c - -o "$work/checked" 2>"$work/log" && "$work/checked"; then
-    for file in "${programs[@]}"; do
-        "$cc" -std=c99 -g -fsanitize=address,undefined -fno-sanitize-recover "${strict[@]}" "$file" "$archive" -lm -o "$work/checked-$(basename "$file" .c)"
-    done
-    for program in lookup "${calls[@]}"; do "$work/checked-$program" >"$work/checked.out"; done
-    whole "$work/checked-profile"
-    "$work/checked-broken" "$work/profiles/2-A2B1" >"$work/checked.out"
+if echo 'int main(void) { return 0; }' | "$cc" -fsanitize=address,undefined -x c - -o "$work/nothing" 2>"$work/log" && "$work/nothing"; then
+    compiled "$work/sanitized" -g -fsanitize=address,undefined -fno-sanitize-recover
+    for program in "${calls[@]}"; do "$work/sanitized/tests/$program" >"$work/checked.out"; done
+    examples "$work/sanitized/examples"
+    whole "$work/sanitized/examples/profile"
+    "$work/sanitized/tests/broken" "$work/profiles/2-A2B1" >"$work/checked.out"
     say "no finding of the address and undefined-behaviour sanitizers"
 else
     say "the sanitizers are not available here"
 fi
 if command -v valgrind >"$work/log"; then
     grind=(valgrind -q --error-exitcode=1 --leak-check=full)
-    for program in lookup "${calls[@]}"; do "${grind[@]}" "$work/$program" >"$work/valgrind.out"; done
-    whole "${grind[@]}" "$work/profile"
-    "${grind[@]}" "$work/broken" "$work/profiles/1-A2B1" >"$work/valgrind.out"
+    for program in "${calls[@]}"; do "${grind[@]}" "$work/c/tests/$program" >"$work/valgrind.out"; done
+    examples "$work/c/examples" "${grind[@]}"
+    whole "${grind[@]}" "$work/c/examples/profile"
+    "${grind[@]}" "$work/c/tests/broken" "$work/profiles/1-A2B1" >"$work/valgrind.out"
     say "no finding of valgrind"
 else
     say "valgrind is not available here"
@@ -107,10 +121,9 @@ else
     rustc --crate-type rlib --crate-name tenahvar "${link[@]}" bindings/rust/src/lib.rs -o "$work/libtenahvar.rlib"
     built=$work/rust
     mkdir -p "$built"
-    for example in lookup profile; do rustc --edition 2021 --extern "tenahvar=$work/libtenahvar.rlib" "examples/$example.rs" -o "$built/$example"; done
+    for example in "${shown[@]}" profile; do rustc --edition 2021 --extern "tenahvar=$work/libtenahvar.rlib" "examples/$example.rs" -o "$built/$example"; done
 fi
-"$built/lookup" >"$work/rust.out"
-same lookup "$work/rust.out" examples/lookup.rs
+examples "$built"
 whole "$built/profile"
 cut_off "$work/cut-rust.out" "$built/profile"
 diff "$work/cut-c.out" "$work/cut-rust.out" || { say "of a profile that was cut off examples/profile.c (<) and .rs (>) say different things"; exit 1; }

@@ -3,7 +3,7 @@
 //! rounded once, in the order written, and nothing is fused.
 //!
 //! `lookup`, `layout`, `weights`, `pyramidal`, `prismatic` and `trilinear` give the crate's answers for accepted calls.
-//! The refusals are not the crate's: `expected` has them, in the words of document 01's table, and `clut` has document 02's CLUT elements.
+//! The refusals are not the crate's: `expected` has them, in the words of document 01's table; `clut` has document 02's CLUT elements and `slab` its slabs.
 
 mod answers;
 pub mod clut;
@@ -11,6 +11,7 @@ mod cubes;
 pub mod expected;
 #[macro_use]
 mod sizes;
+pub mod slab;
 mod weights;
 
 pub use answers::{layout, lookup, Lut, Strides};

@@ -12,6 +12,9 @@ pub const ELEMENT: usize = 4_096;
 /// The longest buffer that an element is read into.
 pub const BUFFER: usize = 4_000;
 
+/// The longest buffer that a slab is cut into.
+pub const SLAB: usize = 1_024;
+
 /// D of a record that is left as it is.
 pub const NO_PLACE: u32 = u32::MAX;
 
@@ -102,7 +105,7 @@ impl Asked {
 pub struct List {
     pub stdin: String,
     pub stdout: String,
-    pub counts: [usize; 11],
+    pub counts: [usize; 12],
     pub entries: usize,
 }
 
@@ -226,5 +229,22 @@ impl List {
         let read = oracle::clut::read(element, n as usize, m as usize, &old.entries());
         self.entries += read.entries.len();
         self.answers(Some(read.number), read.record.into_iter().chain(read.entries.iter().map(|e| e.to_bits())));
+    }
+
+    /// 11: a slab, into a buffer with old contents. The record is listed place by place.
+    pub fn slab(&mut self, record: &expected::Record, table: &Table, j: u32, k: u32, old: &Table) {
+        self.asks(11, &[record, &table.text(), &[j, k], &old.text()]);
+        let (entries, mut buffer) = (table.entries(), old.entries());
+        self.entries += entries.len() + buffer.len();
+        assert!(entries.len() <= ROOM);
+        assert!(buffer.len() <= SLAB);
+        let (j, k) = (j as usize, k as usize);
+        let number = oracle::slab::record_number(record, entries.len(), j, k, buffer.len());
+        if number == 0 {
+            let (g, n, m) = expected::accepted(record).expect("an accepted record");
+            let slab = oracle::slab::entries(g, n, m, &entries, j, k);
+            buffer[..slab.len()].copy_from_slice(&slab);
+        }
+        self.answers(Some(number), buffer.iter().map(|e| e.to_bits()));
     }
 }

@@ -5,6 +5,7 @@ mod cluts;
 mod list;
 mod lookups;
 mod others;
+mod slabs;
 #[allow(dead_code)]
 #[path = "../differential/values.rs"]
 mod values;
@@ -24,11 +25,12 @@ fn main() {
     others::weights(list, rng);
     others::cubes(list, rng);
     cluts::all(list, rng);
+    slabs::all(list, rng);
     list.stdin.push_str("0\n");
     std::fs::write(format!("{folder}/stdin"), &list.stdin).expect("stdin is written");
     std::fs::write(format!("{folder}/stdout"), &list.stdout).expect("stdout is written");
-    let names = ["", "lookups", "layouts", "nodes", "weights", "sizes' weights", "pyramids", "prisms", "trilinears", "constant's entries", "CLUTs"];
-    let told: Vec<String> = (1..11).map(|k| format!("{} {}", list.counts[k], names[k])).collect();
+    let names = ["", "lookups", "layouts", "nodes", "weights", "sizes' weights", "pyramids", "prisms", "trilinears", "constant's entries", "CLUTs", "slabs"];
+    let told: Vec<String> = (1..12).map(|k| format!("{} {}", list.counts[k], names[k])).collect();
     println!(
         "vectors: {} cases ({}); stdin {} bytes, stdout {} bytes, {} table entries in all",
         list.counts.iter().sum::<usize>(), told.join(", "), list.stdin.len(), list.stdout.len(), list.entries

@@ -55,6 +55,18 @@ extern "C" {
         entries_length: usize,
     ) -> u32;
 
+    pub fn tenahvar_cut_slab(
+        sizes: &[u8; 16],
+        n: usize,
+        m: usize,
+        table: *const f32,
+        table_length: usize,
+        j: usize,
+        k: usize,
+        slab: *mut f32,
+        slab_length: usize,
+    ) -> u32;
+
     pub fn tenahvar_create_ranged_256(
         g: u8,
         x: &mut [usize; 256],

@@ -149,6 +149,36 @@ pub fn read_clut(element: &[u8], n: usize, m: usize, entries: &mut [f32]) -> Res
     told(number).map(|()| grid)
 }
 
+/// Cuts out the table that remains when ink `j`, counted from 1, stands on grid line `k`, counted from 0: sets the first entries of `slab`, as many as
+/// [`Grid::total`] of the grid that it answers, and no others. That grid has one ink fewer and is for lookups in the slab with the other inks' inputs.
+/// Refusals 1 to 6, 11, 12 and 8, in that order.
+pub fn cut_slab(
+    grid: &Grid,
+    table: &[f32],
+    j: usize,
+    k: usize,
+    slab: &mut [f32],
+) -> Result<Grid, Refusal> {
+    // SAFETY: each pointer goes with its slice's length, and the `&mut` overlaps nothing.
+    told(unsafe {
+        c::tenahvar_cut_slab(
+            &grid.sizes,
+            grid.n,
+            grid.m,
+            table.as_ptr(),
+            table.len(),
+            j,
+            k,
+            slab.as_mut_ptr(),
+            slab.len(),
+        )
+    })?;
+    Ok(Grid {
+        n: grid.n - 1,
+        ..*grid
+    })
+}
+
 /// The cell of each 8-bit ink code on an axis of `g` lines. Refusal 3.
 pub fn create_ranged_256(g: u8) -> Result<[Cell; 256], Refusal> {
     let (mut x, mut x_n, mut w) = ([0; 256], [0; 256], [0.0; 256]);

@@ -20,12 +20,16 @@ pub enum Refusal {
     ShortTable = 6,
     /// The number of inputs, or of node coordinates, is not that of the input inks.
     InputCount = 7,
-    /// A buffer to be written is too short: shorter than the number of output inks, or for a CLUT than the table.
+    /// A buffer to be written is too short: shorter than the number of output inks, or for a CLUT or a slab than its table.
     ShortAnswer = 8,
     /// A layout record is not one that an accepted layout gives. No function here takes a record.
     ForeignRecord = 9,
     /// A node, of a cell or of the coordinates, is outside the grid.
     OutsideGrid = 10,
+    /// The ink to cut is not one of the input inks, counted from 1, or there is only one.
+    NoSuchInk = 11,
+    /// The line to cut at is not below the grid size.
+    NoSuchLine = 12,
     /// A CLUT element has under 20 bytes.
     ShortElement = 13,
     /// The precision of a CLUT element is neither 1 nor 2.
@@ -35,7 +39,7 @@ pub enum Refusal {
 }
 
 impl Refusal {
-    pub(crate) const ALL: [Refusal; 13] = [
+    pub(crate) const ALL: [Refusal; 15] = [
         Refusal::InputInks,
         Refusal::OutputInks,
         Refusal::ZeroSize,
@@ -46,6 +50,8 @@ impl Refusal {
         Refusal::ShortAnswer,
         Refusal::ForeignRecord,
         Refusal::OutsideGrid,
+        Refusal::NoSuchInk,
+        Refusal::NoSuchLine,
         Refusal::ShortElement,
         Refusal::Precision,
         Refusal::ShortData,
@@ -72,6 +78,8 @@ impl fmt::Display for Refusal {
             Refusal::ShortAnswer => "a buffer to be written is too short",
             Refusal::ForeignRecord => "the record is not one that an accepted layout gives",
             Refusal::OutsideGrid => "a node is outside the grid",
+            Refusal::NoSuchInk => "the ink to cut is not an ink, or it is the only one",
+            Refusal::NoSuchLine => "the line to cut at is not one of the grid",
             Refusal::ShortElement => "the CLUT element has under 20 bytes",
             Refusal::Precision => "the precision of the CLUT element is neither 1 nor 2",
             Refusal::ShortData => "the CLUT element has too little data for the table",

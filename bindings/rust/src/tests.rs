@@ -1,6 +1,7 @@
 extern crate std;
 
 mod clut;
+mod slab;
 
 use super::*;
 use std::{string::ToString, vec, vec::Vec};
@@ -224,8 +225,7 @@ fn cubes() {
 
 #[test]
 fn every_refusal_has_its_number_and_a_text() {
-    let numbers = (1..=10).chain(13..=15);
-    for (number, refusal) in numbers.zip(&Refusal::ALL) {
+    for (number, refusal) in (1..=15).zip(&Refusal::ALL) {
         assert_eq!(refusal.number(), number);
         assert_eq!(told(refusal.number()), Err(*refusal));
         assert!(!refusal.to_string().is_empty());

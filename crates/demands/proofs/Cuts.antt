@@ -15,7 +15,7 @@ use Rattle.cell.specs.Rule.{line, productOf}
 use Rattle.layout.specs.Order.{Within}
 use Rattle.lookup.specs.Lookup.{Grid, lookup}
 use Rattle.lookup.specs.Table.{inkCell, cells}
-use Rattle.demands.specs.Slab.{insert, without}
+use Rattle.slab.specs.Slab.{insert, without}
 use Rattle.demands.proofs.Each.{All, all-map, all-at, Each, each-map, each-lowers, Weights}
 use Rattle.demands.proofs.Lookups.{share-held}
 use Rattle.demands.proofs.Lines.{Zero, lookup-node, lookup-cut}

@@ -1,7 +1,8 @@
--- The lookup's own definition meets demand 3 (`at-a-node`, `on-a-line`), and the smaller lookup that it speaks of is accepted (`smaller-..`).
+-- The lookup's own definition meets demand 3 (`at-a-node`, `on-a-line`), and the cut and the smaller lookup that it speaks of are accepted
+-- (`cut-accepted`, `smaller-..`).
 -- Assumes nothing.
 use Prim.Native.Nat.{ℕ, _+_, _-_, _*_, _≤_, _<_}
-use mathlib.Core.Path.{_≡_, sym, ap, _∙_}
+use mathlib.Core.Path.{_≡_, sym, ap, _∙_, subst}
 use mathlib.Core.List.{List, reverse}
 use mathlib.Core.Logic.{⊎-elim}
 use native.Mathlib.Omega.{arith}
@@ -13,17 +14,18 @@ use Rattle.layout.specs.declared.MultidimensionalLut.{MultidimensionalLut}
 use Rattle.layout.specs.Order.{index, Within}
 use Rattle.layout.specs.Layout.{IsLayout, inkSizes, entries, fewer}
 use Rattle.layout.proofs.Order.{entries-within}
-use Rattle.layout.proofs.Laws.{inks-to, size-from, size-to, ink-count, fewer-inks, fewer-is-layout}
+use Rattle.layout.proofs.Laws.{inks-to, size-from, size-to, ink-count, fewer-inks, fewer-outputs, fewer-is-layout}
 use Rattle.lookup.specs.Lookup.{Grid, lookup}
 use Rattle.lookup.specs.Table.{output, cells, answerAt}
-use Rattle.demands.specs.Slab.{insert, without, slab, Cuttable, Shares}
-use Rattle.demands.specs.Demand.{OnLine, AtANode, OnALine}
+use Rattle.slab.specs.Slab.{insert, without, SlabCut}
+use Rattle.demands.specs.Demand.{Cuttable, Shares, OnLine, AtANode, OnALine}
 use Rattle.demands.proofs.Each.{All, all-replicate, each-map}
 use Rattle.demands.proofs.Lookups.{lookup-agrees}
-use Rattle.demands.proofs.Without.{length-without}
+use Rattle.slab.proofs.Without.{length-without}
 use Rattle.demands.proofs.InkCells.{Sized, KeepRule, OnLines, on-lines, cells-within, same-rule}
 use Rattle.demands.proofs.Cuts.{line-in, node-in, node-answer, cut-answer}
-use Rattle.demands.proofs.Slabs.{others-are, slab-length, slab-entry, slab-shares}
+use Rattle.slab.proofs.Slabs.{others-are, slab-entry, slab-all}
+use Rattle.slab.proofs.Cutting.{slab-cut-length, passed-done, cut-passed, cut-entry}
 
 sizes-are : (lut : MultidimensionalLut) → IsLayout lut → All Sized (inkSizes lut)
 sizes-are lut is = all-replicate Sized (lut .«input_inks») (lut .«grid_size») (size-from lut is, omega (arith, size-to lut is))
@@ -80,31 +82,45 @@ module _ (lut : MultidimensionalLut) (is : IsLayout lut) (table : List Float) (s
     one : 1 ≤ j
     one = omega (arith, from)
 
-    -- the smaller lookup is accepted: its layout, its table of the right length, its inputs in the right number; and its entries are from 0 to 1 again
+    -- the cut is refused for a short table or a short buffer alone
+    pub cut-accepted : entries lut ≤ length table → (old : List Float) → entries (fewer lut) ≤ length old → (r : ℕ) (now : List Float) → SlabCut lut table j k old r now → r ≡ 0
+    cut-accepted enough old holds r now cut =
+        passed-done lut (length table) j k (length old) r (record { is = is; enough = enough; from = one; to = to; two = two; in-grid = in-grid; holds = holds })
+        (record { laid = cut .laid; decides = cut .decides; number = cut .number })
+
+    -- the smaller lookup is accepted: its layout, its table of enough entries, its inputs in the right number; and its entries are from 0 to 1 again
     pub smaller-layout : IsLayout (fewer lut)
     smaller-layout = fewer-is-layout lut is two
-
-    pub smaller-table : length (slab lut table j k) ≡ entries (fewer lut)
-    smaller-table = slab-length lut is two j one to k in-grid table
 
     pub smaller-inputs : length xs ≡ lut .«input_inks» → length (without (j - 1) xs) ≡ fewer lut .«input_inks»
     smaller-inputs e = omega (arith, fewer-inks lut is two, length-without (j - 1) xs (omega (arith, from, to)), from)
 
-    pub smaller-shares : Shares (slab lut table j k) (entries (fewer lut))
-    smaller-shares = slab-shares lut is two j one to k in-grid table shares
+    module _ (old smaller : List Float) (cut : SlabCut lut table j k old 0 smaller) where
+      pub smaller-table : entries (fewer lut) ≤ length smaller
+      smaller-table = omega (arith, slab-cut-length lut table j k old 0 smaller cut, cut-passed lut table j k old smaller cut .holds)
 
-    line-same : (o : ℕ) → o < lut .«output_inks» → Same (answerAt lut table xs o) (answerAt (fewer lut) (slab lut table j k) (without (j - 1) xs) o)
-    unfolding answerAt
-    line-same o h =
-        let p = lut .«input_inks» - j in
-        let ys = without (j - 1) xs in
-        let size = getD-replicate (lut .«input_inks») p (lut .«grid_size») 0 (omega (arith, from, to)) in
-        let f : Grid = λ ks. output lut table o (insert p k ks) in
-        let others = inkSizes (fewer lut) in
-        cut-answer (inkSizes lut) (sizes-are lut is) few (output lut table o) (entry-share o h) xs p (j - 1) k (omega (arith, from, to, ink-count lut is)) (omega (arith, from)) rule (rw size on)
-        ∙ ap (λ (gs : List ℕ). plain (lookup f (cells gs ys))) (others-are lut is two j one to)
-        ∙ ap plain (lookup-agrees f (output (fewer lut) (slab lut table j k) o) (cells others ys)
-        (each-map (Within others) _ (cells others ys) (λ ks w. sym (slab-entry lut is two j one to k in-grid table ks o w h)) (cells-within others ys (sizes-are (fewer lut) smaller-layout))))
+      pub smaller-shares : Shares smaller (entries (fewer lut))
+      smaller-shares e l = subst Share (sym (cut-entry lut table j k old smaller cut e l)) (slab-all lut is two j one to k in-grid table Share shares e l)
+
+      -- each entry is that of the node with k put in for ink j
+      smaller-entry : (o : ℕ) → o < lut .«output_inks» → (ks : List ℕ) → Within (inkSizes (fewer lut)) ks → output lut table o (insert (lut .«input_inks» - j) k ks) ≡ output (fewer lut) smaller o ks
+      smaller-entry o h ks w =
+          let m = fewer lut .«output_inks» in
+          let below : index (inkSizes (fewer lut)) ks * m + o < entries (fewer lut) = omega (arith, entries-within (inkSizes (fewer lut)) ks m w, fewer-outputs lut is two) in
+          sym (cut-entry lut table j k old smaller cut _ below ∙ slab-entry lut is two j one to k in-grid table ks o w h)
+
+      line-same : (o : ℕ) → o < lut .«output_inks» → Same (answerAt lut table xs o) (answerAt (fewer lut) smaller (without (j - 1) xs) o)
+      unfolding answerAt
+      line-same o h =
+          let p = lut .«input_inks» - j in
+          let ys = without (j - 1) xs in
+          let size = getD-replicate (lut .«input_inks») p (lut .«grid_size») 0 (omega (arith, from, to)) in
+          let f : Grid = λ ks. output lut table o (insert p k ks) in
+          let others = inkSizes (fewer lut) in
+          cut-answer (inkSizes lut) (sizes-are lut is) few (output lut table o) (entry-share o h) xs p (j - 1) k (omega (arith, from, to, ink-count lut is)) (omega (arith, from)) rule (rw size on)
+          ∙ ap (λ (gs : List ℕ). plain (lookup f (cells gs ys))) (others-are lut is two j one to)
+          ∙ ap plain (lookup-agrees f (output (fewer lut) smaller o) (cells others ys)
+          (each-map (Within others) _ (cells others ys) (smaller-entry o h) (cells-within others ys (sizes-are (fewer lut) smaller-layout))))
 
 -- ---- demand 3
 

@@ -8,13 +8,12 @@ use lib.Ieee.{Float, nan, fits, ofInt, mul, lt}
 use lib.ListN.{getD, replicate}
 use Rattle.lists.specs.Lists.{every, product}
 use Rattle.binary32.specs.Numbers.{plusZero, one}
-use Rattle.binary32.specs.Same.{plain, Same}
+use Rattle.binary32.specs.Same.{plain}
 use Rattle.cell.specs.Rule.{clipOf, productOf}
 use Rattle.layout.specs.declared.MultidimensionalLut.{MultidimensionalLut}
 use Rattle.layout.specs.Order.{index}
 use Rattle.layout.specs.Layout.{isCount, recordOf, laidUsing, laidOf, IsLayout, entries}
-use Rattle.demands.specs.Slab.{Shares}
-use Rattle.demands.specs.Demand.{OnLine, AtANode}
+use Rattle.demands.specs.Demand.{Shares, OnLine, AtANode}
 
 -- one ink on two lines and one output, with the entries 0 and 1
 abbrev lut : MultidimensionalLut

@@ -20,9 +20,9 @@ use Rattle.lists.proofs.Lists.{reverse-next}
 use Rattle.layout.specs.Order.{Within}
 use Rattle.lookup.specs.Lookup.{node}
 use Rattle.lookup.specs.Table.{inkCell, cells}
-use Rattle.demands.specs.Slab.{without}
+use Rattle.slab.specs.Slab.{without}
 use Rattle.demands.proofs.Each.{either-way, All, Each, each-map, Weights, lowers}
-use Rattle.demands.proofs.Without.{length-without, getD-without-below, getD-without-from}
+use Rattle.slab.proofs.Without.{length-without, getD-without-below, getD-without-from}
 
 -- a size that a layout accepts
 abbrev pub Sized : ℕ → Type 0

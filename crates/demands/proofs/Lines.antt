@@ -20,10 +20,10 @@ use Rattle.binary32.proofs.Nodes.{mlaf-zero, lerp-zero, along-zero}
 use Rattle.binary32.proofs.Means.{along-held}
 use Rattle.cell.specs.declared.Cell.{Cell}
 use Rattle.lookup.specs.Lookup.{Grid, node, part, lookup}
-use Rattle.demands.specs.Slab.{insert, without}
+use Rattle.slab.specs.Slab.{insert, without}
 use Rattle.demands.proofs.Each.{either-way, Each, Weights, lowers}
 use Rattle.demands.proofs.Lookups.{lookup-held}
-use Rattle.demands.proofs.Without.{length-without}
+use Rattle.slab.proofs.Without.{length-without}
 
 abbrev pub Zero : Float → Type 0
 Zero w = Same w plusZero

@@ -10,8 +10,7 @@ use Rattle.layout.specs.Layout.{IsLayout, entries}
 use Rattle.lookup.specs.Table.{answerAt}
 use Rattle.clut.specs.Clut.{ClutRead}
 use Rattle.clut.proofs.Shares.{read-is-layout, read-shares}
-use Rattle.demands.specs.Slab.{Shares}
-use Rattle.demands.specs.Demand.{NodesKept, LinesCut}
+use Rattle.demands.specs.Demand.{Shares, NodesKept, LinesCut}
 use Rattle.demands.proofs.Demands.{at-a-node, on-a-line}
 
 module _ (element : List ℕ) (bytes : T (areBytes element)) (n m : ℕ) (old : List Float) (r : Laid) (now : List Float)

@@ -1,16 +1,26 @@
 -- Demand 3: for every accepted layout, every table whose entries are from 0 to 1 and all inputs, with zeros of both signs counting as equal. It is said of any
 -- rule that gives the answer of a layout, a table and inputs at an output. Definitions only.
-use Prim.Native.Nat.{ℕ, _-_, _<_}
+use Prim.Native.Nat.{ℕ, _-_, _≤_, _<_}
 use mathlib.Core.Path.{_≡_}
+use mathlib.Core.Logic.{_⊎_}
 use mathlib.Core.List.{List, reverse}
 use lib.Ieee.{Float, nan}
 use lib.ListN.{length, getD}
 use Rattle.binary32.specs.Same.{Same}
+use Rattle.binary32.specs.Range.{Share}
 use Rattle.cell.specs.Rule.{line, productOf}
 use Rattle.layout.specs.declared.MultidimensionalLut.{MultidimensionalLut}
 use Rattle.layout.specs.Layout.{IsLayout, entries, fewer}
 use Rattle.lookup.specs.Table.{output}
-use Rattle.demands.specs.Slab.{without, slab, Cuttable, Shares}
+use Rattle.slab.specs.Slab.{without, SlabCut}
+
+-- the inks j of n that demand 3 speaks of: the fifth and those above it, and the fourth of exactly four
+abbrev pub Cuttable : ℕ → ℕ → Type 0
+Cuttable j n = ((5 ≤ j) × (j ≤ n)) ⊎ ((j ≡ 4) × (n ≡ 4))
+
+-- the first n entries of a table are from 0 to 1
+abbrev pub Shares : List Float → ℕ → Type 0
+Shares table n = (e : ℕ) → e < n → Share (getD table e nan)
 
 abbrev pub Answer : Type 0
 Answer = MultidimensionalLut → List Float → List Float → ℕ → Float
@@ -25,11 +35,13 @@ NodesKept answer lut table = (xs : List Float) (lines : List ℕ)
     → length lines ≡ lut .«input_inks» → ((i : ℕ) → i < lut .«input_inks» → OnLine lut (getD xs i nan) (getD lines i 0))
     → (o : ℕ) → o < lut .«output_inks» → Same (answer lut table xs o) (output lut table o (reverse lines))
 
--- in one table: an ink j, counted from 1, that may be cut and falls on grid line k can be left out, in the slab at that line
+-- in one table: an ink j, counted from 1, that may be cut and falls on grid line k can be left out. The answer is that with one ink fewer, in what `cut_slab`
+-- wrote to a buffer
 abbrev pub LinesCut : Answer → MultidimensionalLut → List Float → Type 0
 LinesCut answer lut table = (xs : List Float) (j k : ℕ)
     → Cuttable j (lut .«input_inks») → OnLine lut (getD xs (j - 1) nan) k
-    → (o : ℕ) → o < lut .«output_inks» → Same (answer lut table xs o) (answer (fewer lut) (slab lut table j k) (without (j - 1) xs) o)
+    → (old slab : List Float) → SlabCut lut table j k old 0 slab
+    → (o : ℕ) → o < lut .«output_inks» → Same (answer lut table xs o) (answer (fewer lut) slab (without (j - 1) xs) o)
 
 -- for every accepted layout and every table whose entries are from 0 to 1
 abbrev pub AtANode : Answer → Type 0

@@ -1,3 +1,2 @@
--- The slab of a table (Slab), and what demand 3 says of a lookup (Demand).
-pub mod Slab
+-- What demand 3 says of a lookup and a cut.
 pub mod Demand

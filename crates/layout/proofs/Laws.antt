@@ -10,7 +10,7 @@ use native.Mathlib.Omega.{arith}
 use lib.Dec.{ltb}
 use lib.IntN.{pos}
 use lib.Ieee.{nan, binary32, ofInt}
-use lib.ListN.{length, getD, drop, replicate, length-replicate, getD-replicate}
+use lib.ListN.{length, getD, take, drop, replicate, length-replicate, getD-replicate}
 use lib.Seq.{drop-cons}
 use borrow.Author.Tests.{ltb-true}
 use Rattle.lists.specs.Lists.{every, product}
@@ -21,7 +21,7 @@ use Rattle.lists.proofs.Lists.{take-replicate, drop-replicate, reverse-replicat
 use Rattle.layout.proofs.Parts.{count-from, count-to, count-is, product-fits}
 use Rattle.layout.proofs.Accepted.{Accepted, accepted-equal, common-is}
 use Rattle.layout.proofs.Facts.{Facts, facts-of, layout-of, used-at}
-use Rattle.layout.proofs.Order.{strided-index, steps-after, entries-within, within-length}
+use Rattle.layout.proofs.Order.{strided-index, steps-after, steps-at, entries-within, within-length}
 
 -- ---- equal sizes: the one place that rests on them
 
@@ -107,6 +107,11 @@ module _ (lut : MultidimensionalLut) (is : IsLayout lut) where
   -- the filling sizes count table entries
   pub filling-steps : Steps (lut .«grid_filling_size») (inkSizes lut) (lut .«output_inks»)
   filling-steps = steps-of (lut .«output_inks») (lut .«grid_filling_size») filling-at
+
+  -- that of ink j, counted from 1: the entries of the inks after it
+  pub filling-after : (j : ℕ) → 1 ≤ j → j ≤ lut .«input_inks»
+      → getD (lut .«grid_filling_size») (j - 1) 0 ≡ lut .«output_inks» * product (take (lut .«input_inks» - j) (inkSizes lut))
+  filling-after j from to = steps-at (lut .«grid_filling_size») (inkSizes lut) (lut .«output_inks») (lut .«input_inks» - j) (j - 1) filling-steps (omega (arith, ink-count))
 
   -- the first ink's filling size times the size is the whole table
   pub first-filling : getD (lut .«grid_filling_size») 0 0 * lut .«grid_size» ≡ entries lut

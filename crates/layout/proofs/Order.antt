@@ -51,6 +51,13 @@ module _ (used strides : List ℕ) (c : ℕ) (after : (i : ℕ) → i < length u
       subst (λ (l : List ℕ). Steps strides (reverse l) c) (take-length used)
       (subst (Steps strides (reverse (take (length used) used))) (ap (λ (l : List ℕ). c * product l) (drop-length used) ∙ mul-one c) (steps-first (length used) (le-refl (length used))))
 
+-- the stride of ink i, counted from 0, which has p inks after it: that of the last ink, times those inks' sizes
+pub steps-at : (strides gs : List ℕ) (s p i : ℕ) → Steps strides gs s → i + suc p ≡ length gs → getD strides i 0 ≡ s * product (take p gs)
+unfolding Steps product
+steps-at strides [] s p i h e = absurd (omega arith)
+steps-at strides (g ∷ gs) s zero i h e = let last : i ≡ length gs = omega arith in rw last (h .0 ∙ sym (mul-one s))
+steps-at strides (g ∷ gs) s (suc p) i h e = steps-at strides gs (s * g) p i (h .1) (omega arith) ∙ mul-assoc s g (product (take p gs))
+
 -- ---- nodes and numbers are one to one
 
 low : (g k i : ℕ) → k < g → k ≡ (k + g * i) % g

@@ -3,14 +3,14 @@
 use Prim.Native.Nat.{ℕ, zero, suc, _+_, _≤_, _<_}
 use mathlib.Core.Path.{_≡_, refl, sym, _∙_}
 use mathlib.Core.List.{List}
-use native.Mathlib.Nat.{not-suc-le-zero, le-of-eq}
+use native.Mathlib.Nat.{not-suc-le-zero, le-of-eq, add-zero, add-suc}
 use native.Mathlib.Numerals.{add-one}
 use native.Mathlib.Decide.{decLt}
 use native.Mathlib.Omega.{arith}
 use lib.ListN.{length, getD, set, length-set}
 use lib.Seq.{getD-set-same, getD-set-other, ext-getD}
 use Rattle.lists.specs.Lists.{tabulate}
-use Rattle.lists.specs.Buffer.{written, left}
+use Rattle.lists.specs.Buffer.{written, writtenFrom, left}
 use Rattle.lists.proofs.Lists.{length-tabulate, getD-tabulate}
 
 module _ {A : Type 0} (f : ℕ → A) where
@@ -73,6 +73,27 @@ written-over f g m old d l =
     written-is g m old (written g m (written f m old)) d l (length-written g m (written f m old) ∙ length-written f m old)
     (λ k low. written-at g m (written f m old) k d low (omega (arith, length-written f m old)))
     (λ k high. written-past g m (written f m old) k d high ∙ written-past f m old k d high)
+
+-- ---- a stretch of the list
+
+module _ {A : Type 0} (from : ℕ) (f : ℕ → A) where
+  pub length-written-from : (m : ℕ) (old : List A) → length (writtenFrom from f m old) ≡ length old
+  unfolding writtenFrom
+  length-written-from zero old = refl
+  length-written-from (suc m) old = simp length-set (length-written-from m old)
+
+  -- a store at the stretch's next place
+  pub written-from-next : (k : ℕ) (old : List A) → set (writtenFrom from f k old) (from + k) (f k) ≡ writtenFrom from f (k + 1) old
+  unfolding writtenFrom
+  written-from-next k old = rw (add-one k)
+
+-- a stretch after the first m places
+pub written-on : {A : Type 0} (f g : ℕ → A) (m k : ℕ) (old : List A) → ((i : ℕ) → i < k → f i ≡ g (m + i)) → writtenFrom m f k (written g m old) ≡ written g (m + k) old
+unfolding writtenFrom written
+written-on f g m zero old h = rw (add-zero m)
+written-on f g m (suc k) old h = rw (add-suc m k, written-on f g m k old (λ i l. h i (omega arith)), h k (omega arith))
+
+-- ---- a call's number
 
 -- on a refusal the length is kept too
 pub length-left : {A : Type 0} (r : ℕ) (f : ℕ → A) (m : ℕ) (old : List A) → length (left r f m old) ≡ length old

@@ -1,4 +1,4 @@
-// The record of a lookup: a layout's, with one place changed where the list says so.
+// Records: a layout's with one place changed where the list says so, or each place listed.
 use crate::words;
 use layout::MultidimensionalLut;
 
@@ -39,4 +39,15 @@ pub(crate) fn asked(w: [usize; 5]) -> MultidimensionalLut {
     let g = words::low_byte(w[0]);
     let laid = layout::layout([g; 16], w[1], w[2]);
     changed(laid.lut, w[3], w[4])
+}
+
+// A record whose places are listed one by one.
+pub(crate) fn listed(places: &[usize; 51]) -> MultidimensionalLut {
+    let mut lut = layout::refused(0).lut;
+    let mut i: usize = 0;
+    while i < 51 {
+        lut = changed(lut, i, places[i]);
+        i += 1;
+    }
+    lut
 }

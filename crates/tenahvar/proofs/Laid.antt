@@ -1,20 +1,23 @@
--- A layout that gives 0: its record is a layout's, and what the node reader says of that record is what the caller through C is owed.
+-- A layout that gives 0: its record is a layout's, and what the node reader and a cut say of that record is what the caller through C is owed.
 -- Assumes nothing.
 use Prim.Native.Nat.{ℕ, _*_}
 use mathlib.Core.Path.{_≡_, sym, ap, _∙_, subst}
 use mathlib.Core.Bool.{Bool, true}
 use mathlib.Core.List.{List, reverse}
 use lib.Dec.{T}
-use lib.Ieee.{Float}
-use lib.ListN.{length}
+use lib.Ieee.{Float, nan}
+use lib.ListN.{length, getD}
 use lib.Pow.{areBytes}
 use Rattle.outcome.specs.Outcome.{orElse, onDone}
 use Rattle.outcome.proofs.Refused.{kept, given}
+use Rattle.lists.specs.Buffer.{left}
 use Rattle.layout.specs.declared.Laid.{Laid}
 use Rattle.layout.specs.Order.{index}
-use Rattle.layout.specs.Layout.{laidOf, IsLayout, inkSizes}
+use Rattle.layout.specs.Layout.{laidOf, IsLayout, inkSizes, entries, fewer}
 use Rattle.layout.proofs.BySizes.{laid-is-layout, laid-outputs}
 use Rattle.lookup.specs.Node.{nodeRefusal, NodeRefused, NodePlaced}
+use Rattle.slab.specs.Slab.{slab, refusal, SlabCut}
+use Rattle.tenahvar.specs.Slab.{slabNumber, SlabTaken}
 use Rattle.tenahvar.specs.Node.{nodeNumber, NodeFound}
 
 module _ (sizes : List ℕ) (n m : ℕ) (laid : Laid) (answer : laid ≡ laidOf sizes n m) (no-refusal : laid .refusal ≡ 0) where
@@ -53,3 +56,16 @@ module _ (sizes : List ℕ) (n m : ℕ) (laid : Laid) (answer : laid ≡ laidOf 
               ∙ ap (λ (k : ℕ). index (inkSizes (laidOf sizes n m .lut)) (reverse coordinates) * k) (laid-outputs sizes n m accepted)
               ∙ given _ _ old number;
         }
+
+  -- a cut by the record
+  pub slab-taken : IsLayout (laid .lut) → (table : List Float) (j k : ℕ) (old : List Float) (r : ℕ) (now : List Float) → SlabCut (laid .lut) table j k old r now → SlabTaken sizes n m table j k old r now
+  slab-taken is table j k old r now cut =
+      let number : r ≡ slabNumber sizes n m (length table) j k (length old) =
+      cut .number
+      ∙ ap (λ (b : Bool). refusal b (laid .lut) (length table) j k (length old)) (cut .decides .found is)
+      ∙ ap (λ (x : ℕ). orElse x (refusal true (laid .lut) (length table) j k (length old))) (sym no-refusal)
+      ∙ ap (λ (l : Laid). orElse (l .refusal) (refusal true (l .lut) (length table) j k (length old))) answer in
+      record {
+        number = number;
+        entries = cut .entries ∙ (λ i. left (number i) (λ e. getD (slab (answer i .lut) table j k) e nan) (entries (fewer (answer i .lut))) old);
+      }

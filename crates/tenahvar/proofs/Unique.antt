@@ -15,6 +15,8 @@ use Rattle.tenahvar.proofs.tenahvar_lookup.Kinds as lookup-kinds
 use Rattle.tenahvar.proofs.tenahvar_lookup.Reads as lookup-reads
 use Rattle.tenahvar.proofs.tenahvar_node.Kinds as node-kinds
 use Rattle.tenahvar.proofs.tenahvar_node.Reads as node-reads
+use Rattle.tenahvar.proofs.tenahvar_cut_slab.Kinds as cut-slab-kinds
+use Rattle.tenahvar.proofs.tenahvar_cut_slab.Reads as cut-slab-reads
 use Rattle.tenahvar.proofs.tenahvar_read_clut.Kinds as read-clut-kinds
 use Rattle.tenahvar.proofs.tenahvar_read_clut.Reads as read-clut-reads
 use Rattle.tenahvar.proofs.tenahvar_create_ranged_256.Kinds as create-ranged-256-kinds
@@ -42,6 +44,11 @@ pub tenahvar-node-unique : OneOutcome 4 node-kinds.ps node-kinds.r node-reads.Po
 tenahvar-node-unique κs a x y ws vs p q =
     let offset = p .offset ∙ sym (q .offset) in
     (p .number ∙ sym (q .number), λ i. (tt, (tt, (tt, (tt, (tt, (offset i, tt)))))))
+
+pub tenahvar-cut-slab-unique : OneOutcome 3 cut-slab-kinds.ps cut-slab-kinds.r cut-slab-reads.Post
+tenahvar-cut-slab-unique κs a x y ws vs p q =
+    let entries = p .entries ∙ sym (q .entries) in
+    (p .number ∙ sym (q .number), λ i. (tt, (tt, (tt, (tt, (tt, (tt, (entries i, tt))))))))
 
 pub tenahvar-read-clut-unique : OneOutcome 3 read-clut-kinds.ps read-clut-kinds.r read-clut-reads.Post
 tenahvar-read-clut-unique κs a x y ws vs p q =
@@ -81,6 +88,9 @@ tenahvar-lookup-asks-nothing κs a = tt
 
 pub tenahvar-node-asks-nothing : (κs : _) (a : _) → node-reads.Pre κs a
 tenahvar-node-asks-nothing κs a = tt
+
+pub tenahvar-cut-slab-asks-nothing : (κs : _) (a : _) → cut-slab-reads.Pre κs a
+tenahvar-cut-slab-asks-nothing κs a = tt
 
 pub tenahvar-read-clut-asks-nothing : (κs : _) (a : _) → read-clut-reads.Pre κs a
 tenahvar-read-clut-asks-nothing κs a = tt

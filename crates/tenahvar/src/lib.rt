@@ -5,6 +5,7 @@ ghost use Rattle.cubes.specs.Blends.{pyramid, prism, trilinear};
 ghost use Rattle.tenahvar.specs.Layout.{LaidOut, LaidBy};
 ghost use Rattle.lookup.specs.Table.{LookedBySizes};
 ghost use Rattle.tenahvar.specs.Node.{NodeFound};
+ghost use Rattle.tenahvar.specs.Slab.{SlabTaken};
 ghost use Rattle.tenahvar.specs.Weights.{RangedInto};
 ghost use Rattle.tenahvar.specs.Cubes.{BlendedAt};
 ghost use Rattle.tenahvar.specs.Clut.{ClutTaken};
@@ -81,6 +82,27 @@ pub extern "C" fn tenahvar_node(
     let first = lookup::node_offset(lut, table, coordinates);
     *offset = first.0 as usize;
     0
+}
+
+// Lays out, then cuts out a slab: refusals 1 to 5, then 6, 11, 12, 8. On 0 the table with ink j, counted from 1, on line k, counted from 0, stands in the
+// first entries of `slab`; it is looked up with the same sizes and one ink fewer.
+#[no_mangle]
+pub extern "C" fn tenahvar_cut_slab(
+    sizes: &[u8; 16],
+    n: usize,
+    m: usize,
+    table: &[f32],
+    j: usize,
+    k: usize,
+    slab: &mut [f32],
+) -> u32
+    ensures { λ r. ⌜ SlabTaken (now (sizes .entry)) n m (now (table .entry)) j k (now (slab .entry)) r (now (slab .exit)) ⌝ }
+{
+    let laid = laid_out(*sizes, n, m);
+    if laid.refusal != 0 {
+        return laid.refusal;
+    }
+    slab::cut_slab(laid.lut, table, j, k, slab)
 }
 
 // Reads a CLUT element: refusals 13, 1 to 5, 14, 15, 8. On 0 `sizes` is the element's and the first total places of `entries` are set;

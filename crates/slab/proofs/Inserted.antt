@@ -3,10 +3,10 @@
 use Prim.Native.Nat.{ℕ, zero, suc, _+_, _*_, _/_, _%_, _<_}
 use mathlib.Core.Path.{_≡_, sym, ap, ap₂, _∙_, subst}
 use mathlib.Core.List.{List, [], _∷_}
-use native.Mathlib.Nat.{le-of-suc-le-suc, not-suc-le-zero, add-zero, mul-comm, mul-suc, mul-le-mul-left}
-use native.Mathlib.Nat.{mod-lt, mod-eq-of-lt, div-eq-of-lt, mul-add-mod-self-right, mul-add-div-right, div-lt-iff-lt-mul}
+use native.Mathlib.Nat.{le-of-suc-le-suc, not-suc-le-zero, mul-comm, mul-suc, mul-le-mul-left, mod-lt, div-lt-iff-lt-mul}
 use native.Mathlib.Decide.{decLt}
 use native.Mathlib.Omega.{arith}
+use lib.Arith.{digits-div, digits-mod}
 use lib.Ieee.{Float, nan}
 use lib.Ieee.Positive.{first-pos}
 use lib.ListN.{length, getD}
@@ -15,7 +15,7 @@ use Rattle.lists.proofs.Lists.{getD-tabulate}
 use Rattle.layout.specs.Order.{index, Within, nodeAt}
 use Rattle.layout.proofs.Order.{entries-within, index-injective, node-within, node-back}
 use Rattle.lookup.specs.Lookup.{Grid}
-use Rattle.demands.specs.Slab.{insert, without}
+use Rattle.slab.specs.Slab.{insert, without}
 
 -- ---- coordinates with k put in at place p
 
@@ -72,10 +72,8 @@ module _ (gs : List ℕ) (m : ℕ) (f : ℕ → Grid) where
   pub table-at : (ks : List ℕ) (o : ℕ) → Within gs ks → o < m → getD (tableOf gs m f) (index gs ks * m + o) nan ≡ f o ks
   table-at ks o w h =
       let i = index gs ks in
-      let output : (i * m + o) % m ≡ o = mul-add-mod-self-right i m o ∙ mod-eq-of-lt h in
-      let number : (i * m + o) / m ≡ i = mul-add-div-right (omega arith) i o ∙ ap (λ (r : ℕ). i + r) (div-eq-of-lt h) ∙ add-zero i in
       getD-tabulate (product gs * m) _ (i * m + o) nan (omega (arith, entries-within gs ks m w))
-      ∙ ap₂ f output (ap (nodeAt gs) number ∙ node-back gs ks w)
+      ∙ ap₂ f (digits-mod i h) (ap (nodeAt gs) (digits-div i h) ∙ node-back gs ks w)
 
   -- and no other entry
   pub table-all : (P : Float → Type 0) → ((ks : List ℕ) (o : ℕ) → Within gs ks → o < m → P (f o ks)) → (e : ℕ) → e < product gs * m → P (getD (tableOf gs m f) e nan)

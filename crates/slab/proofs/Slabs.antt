@@ -4,21 +4,23 @@
 use Prim.Native.Nat.{ℕ, suc, _+_, _-_, _*_, _≤_, _<_}
 use mathlib.Core.Path.{_≡_, sym, ap, _∙_, subst}
 use mathlib.Core.List.{List}
+use native.Mathlib.Nat.{mul-comm, mul-assoc}
 use native.Mathlib.Omega.{arith}
 use lib.Ieee.{Float, nan}
-use lib.ListN.{length, getD, replicate, length-replicate, getD-replicate}
-use Rattle.binary32.specs.Range.{Share}
+use lib.ListN.{length, getD, take, replicate, length-replicate, getD-replicate}
 use Rattle.lists.specs.Lists.{product}
-use Rattle.lists.proofs.Lists.{length-tabulate}
+use Rattle.lists.proofs.Lists.{length-tabulate, getD-tabulate}
 use Rattle.layout.specs.declared.MultidimensionalLut.{MultidimensionalLut}
 use Rattle.layout.specs.Order.{index, Within}
 use Rattle.layout.specs.Layout.{IsLayout, inkSizes, entries, fewer}
 use Rattle.layout.proofs.Order.{entries-within, within-length}
 use Rattle.layout.proofs.Laws.{fewer-inks, fewer-outputs, fewer-size}
 use Rattle.lookup.specs.Table.{output}
-use Rattle.demands.specs.Slab.{insert, without, slab, Shares}
-use Rattle.demands.proofs.Without.{without-replicate, insert-without}
-use Rattle.demands.proofs.Inserted.{insert-within, insert-order, without-within, table-at, table-all}
+use Rattle.slab.specs.Slab.{insert, without, slab}
+use Rattle.slab.specs.Runs.{runOf, turnsOf, cutEntry}
+use Rattle.slab.proofs.Without.{without-replicate, insert-without}
+use Rattle.slab.proofs.Places.{product-at, product-without, entry-place}
+use Rattle.slab.proofs.Inserted.{insert-within, insert-order, without-within, table-at, table-all}
 
 module _ (lut : MultidimensionalLut) (is : IsLayout lut) (two : 2 ≤ lut .«input_inks») (j : ℕ) (from : 1 ≤ j) (to : j ≤ lut .«input_inks») where
   -- ink j's place among coordinates that come last ink first
@@ -38,8 +40,26 @@ module _ (lut : MultidimensionalLut) (is : IsLayout lut) (two : 2 ≤ lut .«inp
       ∙ without-replicate place n g (omega arith)
       ∙ (λ t. replicate (sym (fewer-inks lut is two) t) (sym (fewer-size lut is two) t))
 
+  -- and so is their total
+  total-is : product (without place (inkSizes lut)) * lut .«output_inks» ≡ entries (fewer lut)
+  total-is = λ t. product (others-are t) * sym (fewer-outputs lut is two) t
+
   size-at : getD (inkSizes lut) place 0 ≡ lut .«grid_size»
   size-at = getD-replicate (lut .«input_inks») place (lut .«grid_size») 0 (omega arith)
+
+  -- ---- in runs: each turn of ink j has one of them in the slab, and one for each line in the table
+  pub table-turns : entries lut ≡ turnsOf lut j * lut .«grid_size» * runOf lut j
+  table-turns =
+      let m = lut .«output_inks» in
+      let turn = turnsOf lut j * lut .«grid_size» in
+      let rest = product (take place (inkSizes lut)) in
+      ap (λ (x : ℕ). x * m) (product-at (inkSizes lut) place in-place ∙ ap (λ (g : ℕ). turnsOf lut j * g * rest) size-at) ∙ mul-assoc turn rest m ∙ ap (λ (x : ℕ). turn * x) (mul-comm rest m)
+
+  pub slab-turns : entries (fewer lut) ≡ turnsOf lut j * runOf lut j
+  slab-turns =
+      let m = lut .«output_inks» in
+      let rest = product (take place (inkSizes lut)) in
+      sym total-is ∙ ap (λ (x : ℕ). x * m) (product-without (inkSizes lut) place in-place) ∙ mul-assoc (turnsOf lut j) rest m ∙ ap (λ (x : ℕ). turnsOf lut j * x) (mul-comm rest m)
 
   module _ (k : ℕ) (in-grid : k < lut .«grid_size») where
     below : k < getD (inkSizes lut) place 0
@@ -60,7 +80,7 @@ module _ (lut : MultidimensionalLut) (is : IsLayout lut) (two : 2 ≤ lut .«inp
       -- as many entries as the smaller layout asks for
       pub slab-length : length (slab lut table j k) ≡ entries (fewer lut)
       unfolding slab
-      slab-length = length-tabulate _ _ ∙ (λ t. product (others-are t) * sym (fewer-outputs lut is two) t)
+      slab-length = length-tabulate _ _ ∙ total-is
 
       -- output o of a node of the smaller grid is that of the node with k put in for ink j
       pub slab-entry : (ks : List ℕ) (o : ℕ) → Within (inkSizes (fewer lut)) ks → o < lut .«output_inks»
@@ -77,11 +97,22 @@ module _ (lut : MultidimensionalLut) (is : IsLayout lut) (two : 2 ≤ lut .«inp
           slab-entry (without place ks) o (subst (λ (gs : List ℕ). Within gs (without place ks)) others-are (without-within (inkSizes lut) ks place w)) h
           ∙ ap (output lut table o) (ap (λ (l : ℕ). insert place l (without place ks)) (sym on) ∙ insert-without place ks 0 (omega (arith, within-length (inkSizes lut) ks w, in-place)))
 
-      -- entries from 0 to 1 stay so
-      pub slab-shares : Shares table (entries lut) → Shares (slab lut table j k) (entries (fewer lut))
+      -- what holds of every entry of the table holds of every entry of the slab
+      pub slab-all : (P : Float → Type 0) → ((e : ℕ) → e < entries lut → P (getD table e nan)) → (e : ℕ) → e < entries (fewer lut) → P (getD (slab lut table j k) e nan)
       unfolding slab
-      slab-shares shares =
-          subst (Shares (slab lut table j k)) (λ t. product (others-are t) * sym (fewer-outputs lut is two) t)
-          (table-all (without place (inkSizes lut)) (lut .«output_inks») (λ o ks. output lut table o (insert place k ks)) Share (λ ks o w h.
+      slab-all P each e l =
+          let others = without place (inkSizes lut) in
+          table-all others (lut .«output_inks») (λ o ks. output lut table o (insert place k ks)) P (λ ks o w h.
           let whole = insert-within (inkSizes lut) ks place k in-place below w in
-          shares (index (inkSizes lut) (insert place k ks) * lut .«output_inks» + o) (omega (arith, entries-within (inkSizes lut) (insert place k ks) (lut .«output_inks») whole))))
+          each (index (inkSizes lut) (insert place k ks) * lut .«output_inks» + o) (omega (arith, entries-within (inkSizes lut) (insert place k ks) (lut .«output_inks») whole)))
+          e (omega (arith, total-is))
+
+      -- its entries stand in the table in runs
+      pub slab-place : (e : ℕ) → e < entries (fewer lut) → getD (slab lut table j k) e nan ≡ cutEntry table (runOf lut j) (lut .«grid_size») k e
+      unfolding slab
+      slab-place e l =
+          let m = lut .«output_inks» in
+          let low : e < product (without place (inkSizes lut)) * m = omega (arith, total-is) in
+          getD-tabulate _ _ e nan low
+          ∙ ap (λ (i : ℕ). getD table i nan) (entry-place (inkSizes lut) m place k e in-place low)
+          ∙ ap (λ (g : ℕ). cutEntry table (runOf lut j) g k e) size-at

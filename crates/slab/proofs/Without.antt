@@ -5,7 +5,7 @@ use mathlib.Core.Path.{_≡_, refl, ap}
 use mathlib.Core.List.{List, [], _∷_}
 use native.Mathlib.Nat.{le-of-suc-le-suc, not-suc-le-zero}
 use lib.ListN.{length, getD, replicate}
-use Rattle.demands.specs.Slab.{insert, without}
+use Rattle.slab.specs.Slab.{insert, without}
 
 module _ {A : Type 0} where
   pub length-without : (p : ℕ) (xs : List A) → p < length xs → suc (length (without p xs)) ≡ length xs

@@ -1,0 +1,158 @@
+//! Demand 3 from end to end: an ink on a grid line, and lookups with and without it in the table and in the slab that the library cuts.
+
+use crate::case::{compare, guarded, number, numbers, Case, Run, GUARD};
+use crate::library;
+use crate::random::size;
+use crate::values::{after, askable, random_input, random_inputs, with_products, Rng};
+use oracle::{expected, slab};
+use std::borrow::Cow;
+
+/// A lookup with ink j on line k, in the whole table and, without that ink, in the slab.
+#[derive(Clone)]
+struct Fixed<'a> {
+    g: u8,
+    n: usize,
+    m: usize,
+    table: Cow<'a, [f32]>,
+    j: usize,
+    k: usize,
+    inputs: Vec<f32>,
+    /// How much longer than its total the slab's buffer is.
+    longer: usize,
+}
+
+impl Fixed<'_> {
+    /// Demand 3 speaks of inks from the fifth on, and of the fourth of exactly four.
+    fn demanded(&self) -> bool {
+        self.j > 4 || (self.j, self.n) == (4, 4)
+    }
+
+    fn others(&self) -> Vec<f32> {
+        let mut inputs = self.inputs.clone();
+        inputs.remove(self.j - 1);
+        inputs
+    }
+
+    /// The library's answer in the whole table and in the slab that it cuts, in guarded buffers.
+    fn answers(&self) -> Result<[Vec<f32>; 2], String> {
+        let Fixed { g, n, m, .. } = *self;
+        let (sizes, mut whole, mut fewer) = ([g; 16], guarded(m), guarded(m));
+        let mut part = vec![f32::NAN; expected::total(g, n - 1, m) as usize + self.longer];
+        let lookup = |n, table: &[f32], inputs: &[f32], answer: &mut [f32]| library::lookup(&sizes, n, m, table, inputs, &mut answer[GUARD..GUARD + m]);
+        let numbers = [
+            library::cut_slab(&sizes, n, m, &self.table, self.j, self.k, &mut part),
+            lookup(n, &self.table, &self.inputs, &mut whole),
+            lookup(n - 1, &part, &self.others(), &mut fewer),
+        ];
+        if numbers == [0; 3] { Ok([whole, fewer]) } else { Err(format!("the numbers of the cut and of both lookups are {numbers:?}")) }
+    }
+
+    /// Where the two answers differ by more than the sign of a zero.
+    fn apart(&self, [whole, fewer]: &[Vec<f32>; 2]) -> Option<String> {
+        let plain = |x: f32| if x == 0.0 { 0 } else { x.to_bits() };
+        let (whole, fewer) = (&whole[GUARD..][..self.m], &fewer[GUARD..][..self.m]);
+        let o = (0..self.m).find(|&o| plain(whole[o]) != plain(fewer[o]))?;
+        Some(format!("output {o} is {} in the whole table and {} in the slab", number(whole[o]), number(fewer[o])))
+    }
+}
+
+impl Case for Fixed<'_> {
+    fn number(&self) -> u32 {
+        slab::number(&[self.g; 16], self.n, self.m, self.table.len(), self.j, self.k, usize::MAX)
+    }
+
+    fn difference(&self) -> Option<String> {
+        let answers = match self.answers() {
+            Ok(answers) => answers,
+            Err(refused) => return Some(refused),
+        };
+        let right = slab::entries(self.g, self.n, self.m, &self.table, self.j, self.k);
+        compare(&answers[1], &oracle::lookup(self.g, self.n - 1, self.m, &right, &self.others()))
+            .map(|told| format!("in the slab, against the Rust text: {told}"))
+            .or_else(|| self.apart(&answers).filter(|_| self.demanded()))
+    }
+
+    fn smaller(&self, take: &mut dyn FnMut(Self) -> bool) {
+        for ink in (0..self.n).filter(|&ink| ink + 1 != self.j && self.inputs[ink].to_bits() != 0) {
+            let mut call = self.clone();
+            call.inputs[ink] = 0.0;
+            if take(call) {
+                return;
+            }
+        }
+        for place in (0..self.table.len()).filter(|&place| self.table[place].to_bits() != 0) {
+            let mut call = self.clone();
+            call.table.to_mut()[place] = 0.0;
+            if take(call) {
+                return;
+            }
+        }
+    }
+
+    fn shown(&self) -> String {
+        let Fixed { g, n, m, table, j, k, inputs, longer } = self;
+        let inputs: Vec<String> = inputs.iter().map(|&x| number(x)).collect();
+        let inputs = inputs.join(", ");
+        format!("ink {j} on line {k}: g {g}, n {n}, m {m}, slab buffer longer by {longer}\n  inputs: {inputs}\n  table of {}", numbers(table))
+    }
+}
+
+/// An input that falls on line k, if there is one: by its rounded product, or because it is clipped to the first or the last line.
+fn on_line(rng: &mut Rng, g: u8, k: usize) -> Option<f32> {
+    let last = g as usize - 1;
+    let clipped = rng.one_in(2);
+    if last == 0 {
+        return Some(random_input(rng, g));
+    }
+    if k == 0 && clipped {
+        let bits = rng.pick(&[0x8000_0000, 0x8000_0001, 0xBF80_0000, 0xFF80_0000, 0x7FC0_0000, 0xFFC0_1234, 0x7F80_0001]);
+        return Some(askable(f32::from_bits(bits)));
+    }
+    if k == last && clipped {
+        return Some(rng.pick(&[after(1.0), 2.0, f32::MAX, f32::INFINITY]));
+    }
+    let inputs: Vec<f32> = with_products(g, k as f32).collect();
+    (!inputs.is_empty()).then(|| rng.pick(&inputs))
+}
+
+/// An entry from 0 to 1, both zeros and 1 among them.
+fn share(rng: &mut Rng) -> f32 {
+    match rng.below(8) {
+        0 => rng.pick(&[0.0, -0.0, 1.0]),
+        1 => f32::from_bits(rng.below(0x3F80_0001) as u32),
+        _ => rng.unit(),
+    }
+}
+
+/// `count` lookups with ink `ink(n)` of `inks` on a line, sixteen in each table. Answers how many differ between the table and the slab.
+fn lookups(run: &mut Run, rng: &mut Rng, count: usize, inks: fn(&mut Rng) -> usize, ink: fn(&mut Rng, usize) -> usize) -> usize {
+    let mut apart = 0;
+    for _ in 0..count / 16 {
+        let (n, m) = (inks(rng), if rng.one_in(8) { rng.within(1, 15) } else { rng.within(1, 4) });
+        let bound = rng.pick(&[300, 300, 1_000, 1_000, 4_000, 4_000, 20_000, 300_000]);
+        let g = size(rng, n, m, bound);
+        let table: Vec<f32> = (0..expected::total(g, n, m)).map(|_| share(rng)).collect();
+        for _ in 0..16 {
+            let (j, k) = (ink(rng, n), rng.below(g as usize));
+            let Some(x) = on_line(rng, g, k) else { continue };
+            let mut inputs = vec![0.0; n];
+            random_inputs(rng, g, &mut inputs);
+            inputs[j - 1] = x;
+            let call = Fixed { g, n, m, table: (&table).into(), j, k, inputs, longer: rng.pick(&[0, 0, 1, 9]) };
+            run.hold_ref(&call);
+            apart += call.answers().is_ok_and(|answers| call.apart(&answers).is_some()) as usize;
+        }
+    }
+    apart
+}
+
+pub fn all(run: &mut Run, rng: &mut Rng, long: bool) {
+    let times = if long { 8 } else { 1 };
+    run.kind("lookups with an ink on a line, four to fifteen inks, in the table and in its slab (demand 3)");
+    let inks = |rng: &mut Rng| if rng.one_in(64) { rng.within(9, 15) } else { rng.within(4, 8) };
+    lookups(run, rng, times * 160_000, inks, |rng, n| rng.within(n.min(5), n));
+    run.kind("the same with the fourth of five or more, which demand 3 leaves out: only the slab's lookup is compared");
+    let apart = lookups(run, rng, times * 32_000, |rng| rng.within(5, 8), |_, _| 4);
+    println!("            {apart} lookups with the fourth of five or more differ between the table and its slab");
+    assert!(apart > 0, "no table shows why demand 3 leaves the fourth of five or more out");
+}

@@ -1,0 +1,199 @@
+//! Slabs: a cut as a compared call, the cuts that are compared, and cuts one after another.
+
+use crate::case::{guarded, number, numbers, sentinel, Case, Run, GUARD};
+use crate::library;
+use crate::limits::COUNTS;
+use crate::random::counts;
+use crate::values::{Rng, ENTRIES};
+use oracle::{expected, slab};
+use std::borrow::Cow;
+
+#[derive(Clone)]
+pub struct Slab<'a> {
+    pub sizes: [u8; 16],
+    pub n: usize,
+    pub m: usize,
+    pub table: Cow<'a, [f32]>,
+    pub j: usize,
+    pub k: usize,
+    /// The slab buffer beforehand.
+    pub old: Vec<f32>,
+}
+
+impl<'a> Slab<'a> {
+    /// A call with all sixteen sizes g and a buffer of exactly the slab's total.
+    pub fn good(g: u8, n: usize, m: usize, table: impl Into<Cow<'a, [f32]>>, j: usize, k: usize) -> Slab<'a> {
+        let total = expected::total(g, n - 1, m) as usize;
+        Slab { sizes: [g; 16], n, m, table: table.into(), j, k, old: (0..total).map(sentinel).collect() }
+    }
+}
+
+impl Case for Slab<'_> {
+    fn number(&self) -> u32 {
+        slab::number(&self.sizes, self.n, self.m, self.table.len(), self.j, self.k, self.old.len())
+    }
+
+    fn difference(&self) -> Option<String> {
+        let len = self.old.len();
+        let mut buffer = guarded(len);
+        buffer[GUARD..GUARD + len].copy_from_slice(&self.old);
+        let got = library::cut_slab(&self.sizes, self.n, self.m, &self.table, self.j, self.k, &mut buffer[GUARD..GUARD + len]);
+        let right = slab::cut(&self.sizes, self.n, self.m, &self.table, self.j, self.k, &self.old);
+        if got != right.number {
+            return Some(format!("the number is {got}, not {}", right.number));
+        }
+        (0..buffer.len()).find_map(|place| {
+            let at = place as isize - GUARD as isize;
+            let entry = place.checked_sub(GUARD).and_then(|e| right.slab.get(e)).copied().unwrap_or(sentinel(place));
+            (buffer[place].to_bits() != entry.to_bits()).then(|| format!("entry {at} is {}, not {}", number(buffer[place]), number(entry)))
+        })
+    }
+
+    fn smaller(&self, take: &mut dyn FnMut(Self) -> bool) {
+        for part in [2, 4, 16, 64, usize::MAX] {
+            let (entries, places) = (self.table.len(), self.old.len());
+            let of_table = |length: usize| Slab { table: self.table[..length].to_vec().into(), ..self.clone() };
+            let of_room = |length: usize| Slab { old: self.old[..length].to_vec(), ..self.clone() };
+            if entries > 0 && take(of_table(entries - (entries / part).max(1))) || places > 0 && take(of_room(places - (places / part).max(1))) {
+                return;
+            }
+        }
+        let less = |x: usize| x.wrapping_sub(1);
+        let Slab { n, m, j, k, .. } = *self;
+        for (n, m, j, k) in [(less(n), m, j, k), (n, less(m), j, k), (n, m, less(j), k), (n, m, j, less(k))] {
+            if [n, m, j, k].iter().all(|&x| x != usize::MAX) && take(Slab { n, m, j, k, ..self.clone() }) {
+                return;
+            }
+        }
+        if self.sizes[0] > 1 && take(Slab { sizes: self.sizes.map(|size| size.saturating_sub(1)), ..self.clone() }) {
+            return;
+        }
+        for place in (0..self.table.len()).filter(|&place| self.table[place].to_bits() != 0) {
+            let mut call = self.clone();
+            call.table.to_mut()[place] = 0.0;
+            if take(call) {
+                return;
+            }
+        }
+    }
+
+    fn shown(&self) -> String {
+        let Slab { sizes, n, m, table, j, k, old } = self;
+        format!("cut_slab: sizes {sizes:?}, n {n}, m {m}, j {j}, k {k}\n  table of {}\n  buffer of {}", numbers(table), numbers(old))
+    }
+}
+
+/// Any bits, patterns of NaN with their payloads among them.
+pub fn any_bits(rng: &mut Rng, len: usize) -> Vec<f32> {
+    (0..len).map(|_| if rng.one_in(4) { f32::from_bits(rng.pick(&ENTRIES)) } else { rng.bits() }).collect()
+}
+
+pub fn all(run: &mut Run, rng: &mut Rng, long: bool) {
+    let times = if long { 8 } else { 1 };
+    every(run, rng);
+    limits(run, rng);
+    run.kind("slabs, random inks, lines, counts and lengths");
+    for _ in 0..times * 300_000 {
+        run.hold(random(rng));
+    }
+}
+
+/// Every ink and every line of small grids, with the ink before the first, the one after the last, and the line after the last.
+fn every(run: &mut Run, rng: &mut Rng) {
+    run.kind("slabs of every ink and line, g 1 to 4, n 1 to 6, m 1 to 3; g 1 to 3, n 7 to 15");
+    let small = (1..=4).flat_map(|g| (1..=6).flat_map(move |n| (1..=3).map(move |m| (g, n, m))));
+    let many = (7..=15).flat_map(|n| [(1, n, 15), (2, n, 1), (3, n, 1)]).filter(|&(g, n, m)| expected::total(g, n, m) <= 40_000);
+    for (g, n, m) in small.chain(many) {
+        let table = any_bits(rng, expected::total(g, n, m) as usize);
+        for (j, k) in (0..=n + 1).flat_map(|j| (0..=g as usize).map(move |k| (j, k))) {
+            run.hold(Slab::good(g, n, m, &table, j, k));
+        }
+    }
+}
+
+/// One thing about a call that is set to something else.
+#[derive(Clone, Copy)]
+enum Change {
+    Inks(usize),
+    Outputs(usize),
+    Size(usize, u8),
+    Entries(usize),
+    Ink(usize),
+    Line(usize),
+    Room(usize),
+}
+
+fn changed(rng: &mut Rng, call: &mut Slab, change: Change) {
+    match change {
+        Change::Inks(n) => call.n = n,
+        Change::Outputs(m) => call.m = m,
+        Change::Size(place, size) => call.sizes[place] = size,
+        Change::Entries(length) => call.table.to_mut().resize_with(length, || rng.bits()),
+        Change::Ink(j) => call.j = j,
+        Change::Line(k) => call.k = k,
+        Change::Room(room) => call.old = any_bits(rng, room),
+    }
+}
+
+/// Inks that a table of n has not, or would have if they were cut to fewer bits; and its first and last.
+fn inks(n: usize) -> Vec<usize> {
+    COUNTS.iter().copied().chain([1, n - 1, n, n + 1, 15, (1 << 8) + n, (1 << 32) + n]).collect()
+}
+
+/// Lines around the first and the last, and such that would be below g if they were cut to fewer bits.
+fn lines(g: u8) -> [usize; 9] {
+    let g = g as usize;
+    [0, g - 1, g, g + 1, 255, 1 << 8, 1 << 32, (1 << 32) + g - 1, usize::MAX]
+}
+
+/// What stands at or around a limit of a layout's call.
+fn changes(g: u8, n: usize, m: usize) -> Vec<Change> {
+    let (total, part) = (expected::total(g, n, m) as usize, expected::total(g, n - 1, m) as usize);
+    let mut list: Vec<Change> = COUNTS.iter().copied().chain([1, n - 1, n + 1, 15]).map(Change::Inks).collect();
+    list.extend(COUNTS.iter().copied().chain([1, m - 1, m + 1, 15]).map(Change::Outputs));
+    for place in [0, n - 1, n.min(15), 15] {
+        list.extend([0, 1, g ^ 1, 255].map(|size| Change::Size(place, size)));
+    }
+    list.extend([0, total - 1, total, total + 1].map(Change::Entries));
+    list.extend(inks(n).into_iter().map(Change::Ink));
+    list.extend(lines(g).map(Change::Line));
+    list.extend([0, part - 1, part, part + 1, total].map(Change::Room));
+    list
+}
+
+fn limits(run: &mut Run, rng: &mut Rng) {
+    run.kind("slabs around every limit, every pair of them");
+    for (g, n, m) in [(1, 1, 1), (3, 1, 2), (1, 15, 15), (2, 2, 3), (3, 3, 4), (255, 2, 1), (2, 8, 1)] {
+        let (table, list) = (any_bits(rng, expected::total(g, n, m) as usize), changes(g, n, m));
+        for (&first, &second) in list.iter().flat_map(|first| list.iter().map(move |second| (first, second))) {
+            let mut call = Slab::good(g, n, m, &table, n, g as usize - 1);
+            changed(rng, &mut call, first);
+            changed(rng, &mut call, second);
+            run.hold(call);
+        }
+    }
+}
+
+/// A random call: mostly an ink and a line that are there; a table and a buffer at, one below or above what is needed, or longer.
+fn random(rng: &mut Rng) -> Slab<'static> {
+    let bound = rng.pick(&[10, 30, 100, 300, 1_000]);
+    let (g, n, m) = counts(rng, bound);
+    let near = |rng: &mut Rng, exact: usize| (exact + rng.pick(&[0, 1, 1, 1, 1, 2, 9])).saturating_sub(1);
+    let length = near(rng, expected::total(g, n, m) as usize);
+    let table = any_bits(rng, length);
+    let j = if rng.one_in(8) { rng.pick(&inks(n)) } else { rng.within(1, n) };
+    let k = if rng.one_in(8) { rng.pick(&lines(g)) } else { rng.below(g as usize) };
+    let mut call = Slab { table: table.into(), ..Slab::good(g, n, m, Vec::new(), j, k) };
+    let room = near(rng, call.old.len());
+    call.old = any_bits(rng, room);
+    for size in &mut call.sizes[n..] {
+        *size = rng.next() as u8;
+    }
+    match rng.below(24) {
+        0 => call.n = rng.below(18),
+        1 => call.m = rng.below(18),
+        2 => call.sizes[rng.below(16)] = rng.pick(&[0, 1, 2, 255]),
+        _ => {}
+    }
+    call
+}
