@@ -10,6 +10,7 @@ use lib.Dec.{leb, ltb, eqb}
 use lib.Ieee.{Float, nan}
 use lib.Ieee.Positive.{first-pos}
 use lib.ListN.{length, getD}
+use lib.Seq.{ext-getD}
 use borrow.Author.Tests.{not-false, leb-true, ltb-true, ltb-false, eqb-false, le-leb, lt-ltb, le-ltb, ne-eqb}
 use Rattle.outcome.proofs.Refused.{passed}
 use Rattle.lists.specs.Buffer.{written}
@@ -20,7 +21,7 @@ use Rattle.layout.specs.Layout.{limit, IsLayout, inkSizes, entries, fewer}
 use Rattle.layout.proofs.Laws.{outputs-from, entries-fit, sizes-above, filling-after}
 use Rattle.slab.specs.Slab.{slab, isInk, refusal, SlabCut}
 use Rattle.slab.specs.Runs.{runOf, turnsOf, cutEntry, Fit, Checked}
-use Rattle.slab.proofs.Slabs.{table-turns, slab-turns, slab-place}
+use Rattle.slab.proofs.Slabs.{slab-length, table-turns, slab-turns, slab-place}
 
 pub slab-cut-length : (lut : MultidimensionalLut) (table : List Float) (j k : ℕ) (old : List Float) (r : ℕ) (now : List Float)
     → SlabCut lut table j k old r now → length now ≡ length old
@@ -148,3 +149,10 @@ module _ (lut : MultidimensionalLut) (table : List Float) (j k : ℕ) (old : Lis
     cut-entry e l =
         ap (λ (xs : List Float). getD xs e nan) (cut .entries)
         ∙ written-at (λ e. getD (slab lut table j k) e nan) (entries (fewer lut)) old e nan l (cut-passed .holds)
+
+    -- and where it has no more, it is the slab
+    pub cut-exact : length old ≡ entries (fewer lut) → now ≡ slab lut table j k
+    cut-exact e =
+        let p = cut-passed in
+        let long : length now ≡ entries (fewer lut) = slab-cut-length lut table j k old 0 now cut ∙ e in
+        ext-getD nan now (slab lut table j k) (long ∙ sym (slab-length lut (p .is) (p .two) j (p .from) (p .to) k (p .in-grid) table)) (λ i l. cut-entry i (omega (arith, long)))

@@ -48,18 +48,19 @@ module _ (lut : MultidimensionalLut) (is : IsLayout lut) (two : 2 ≤ lut .«inp
   size-at = getD-replicate (lut .«input_inks») place (lut .«grid_size») 0 (omega arith)
 
   -- ---- in runs: each turn of ink j has one of them in the slab, and one for each line in the table
+  in-runs : (times : ℕ) → times * product (take place (inkSizes lut)) * lut .«output_inks» ≡ times * runOf lut j
+  in-runs times =
+      let rest = product (take place (inkSizes lut)) in
+      mul-assoc times rest (lut .«output_inks») ∙ ap (λ (x : ℕ). times * x) (mul-comm rest (lut .«output_inks»))
+
   pub table-turns : entries lut ≡ turnsOf lut j * lut .«grid_size» * runOf lut j
   table-turns =
-      let m = lut .«output_inks» in
-      let turn = turnsOf lut j * lut .«grid_size» in
-      let rest = product (take place (inkSizes lut)) in
-      ap (λ (x : ℕ). x * m) (product-at (inkSizes lut) place in-place ∙ ap (λ (g : ℕ). turnsOf lut j * g * rest) size-at) ∙ mul-assoc turn rest m ∙ ap (λ (x : ℕ). turn * x) (mul-comm rest m)
+      ap (λ (x : ℕ). x * lut .«output_inks») (product-at (inkSizes lut) place in-place)
+      ∙ in-runs (turnsOf lut j * getD (inkSizes lut) place 0)
+      ∙ ap (λ (g : ℕ). turnsOf lut j * g * runOf lut j) size-at
 
   pub slab-turns : entries (fewer lut) ≡ turnsOf lut j * runOf lut j
-  slab-turns =
-      let m = lut .«output_inks» in
-      let rest = product (take place (inkSizes lut)) in
-      sym total-is ∙ ap (λ (x : ℕ). x * m) (product-without (inkSizes lut) place in-place) ∙ mul-assoc (turnsOf lut j) rest m ∙ ap (λ (x : ℕ). turnsOf lut j * x) (mul-comm rest m)
+  slab-turns = sym total-is ∙ ap (λ (x : ℕ). x * lut .«output_inks») (product-without (inkSizes lut) place in-place) ∙ in-runs (turnsOf lut j)
 
   module _ (k : ℕ) (in-grid : k < lut .«grid_size») where
     below : k < getD (inkSizes lut) place 0

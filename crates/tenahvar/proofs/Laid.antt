@@ -11,6 +11,7 @@ use lib.Pow.{areBytes}
 use Rattle.outcome.specs.Outcome.{orElse, onDone}
 use Rattle.outcome.proofs.Refused.{kept, given}
 use Rattle.lists.specs.Buffer.{left}
+use Rattle.layout.specs.declared.MultidimensionalLut.{MultidimensionalLut}
 use Rattle.layout.specs.declared.Laid.{Laid}
 use Rattle.layout.specs.Order.{index}
 use Rattle.layout.specs.Layout.{laidOf, IsLayout, inkSizes, entries, fewer}
@@ -27,16 +28,17 @@ module _ (sizes : List ℕ) (n m : ℕ) (laid : Laid) (answer : laid ≡ laidOf 
   pub is-layout : length sizes ≡ 16 → T (areBytes sizes) → IsLayout (laid .lut)
   is-layout sixteen bytes = subst (λ (l : Laid). IsLayout (l .lut)) (sym answer) (laid-is-layout sizes n m accepted sixteen bytes)
 
+  -- what the record refuses is refused after the layout
+  after-layout : (refuses : MultidimensionalLut → ℕ) (r : ℕ) → r ≡ refuses (laid .lut) → r ≡ orElse (laidOf sizes n m .refusal) (refuses (laidOf sizes n m .lut))
+  after-layout refuses r is = is ∙ ap (λ (k : ℕ). orElse k (refuses (laid .lut))) (sym no-refusal) ∙ ap (λ (l : Laid). orElse (l .refusal) (refuses (l .lut))) answer
+
   -- the node reader by the record
   module _ (is : IsLayout (laid .lut)) (table : List Float) (coordinates : List ℕ) (r : ℕ) (read : NodeRefused (laid .lut) table coordinates r) where
     plain : r ≡ nodeRefusal true (laid .lut) (length table) coordinates
     plain = read .number ∙ ap (λ (b : Bool). nodeRefusal b (laid .lut) (length table) coordinates) (read .decides .found is)
 
     node-number : r ≡ nodeNumber sizes n m (length table) coordinates
-    node-number =
-        plain
-        ∙ ap (λ (k : ℕ). orElse k (nodeRefusal true (laid .lut) (length table) coordinates)) (sym no-refusal)
-        ∙ ap (λ (l : Laid). orElse (l .refusal) (nodeRefusal true (l .lut) (length table) coordinates)) answer
+    node-number = after-layout (λ lut. nodeRefusal true lut (length table) coordinates) r plain
 
     pub node-refused : (old : ℕ) → (r ≡ 0 → ⊥) → NodeFound sizes n m table coordinates old r old
     node-refused old refused = record { number = node-number; offset = kept _ _ _ refused node-number }
@@ -61,10 +63,7 @@ module _ (sizes : List ℕ) (n m : ℕ) (laid : Laid) (answer : laid ≡ laidOf 
   pub slab-taken : IsLayout (laid .lut) → (table : List Float) (j k : ℕ) (old : List Float) (r : ℕ) (now : List Float) → SlabCut (laid .lut) table j k old r now → SlabTaken sizes n m table j k old r now
   slab-taken is table j k old r now cut =
       let number : r ≡ slabNumber sizes n m (length table) j k (length old) =
-      cut .number
-      ∙ ap (λ (b : Bool). refusal b (laid .lut) (length table) j k (length old)) (cut .decides .found is)
-      ∙ ap (λ (x : ℕ). orElse x (refusal true (laid .lut) (length table) j k (length old))) (sym no-refusal)
-      ∙ ap (λ (l : Laid). orElse (l .refusal) (refusal true (l .lut) (length table) j k (length old))) answer in
+      after-layout (λ lut. refusal true lut (length table) j k (length old)) r (cut .number ∙ ap (λ (b : Bool). refusal b (laid .lut) (length table) j k (length old)) (cut .decides .found is)) in
       record {
         number = number;
         entries = cut .entries ∙ (λ i. left (number i) (λ e. getD (slab (answer i .lut) table j k) e nan) (entries (fewer (answer i .lut))) old);
