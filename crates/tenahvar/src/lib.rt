@@ -98,11 +98,11 @@ pub extern "C" fn tenahvar_cut_slab(
 ) -> u32
     ensures { λ r. ⌜ SlabTaken (now (sizes .entry)) n m (now (table .entry)) j k (now (slab .entry)) r (now (slab .exit)) ⌝ }
 {
-    let laid = laid_out(*sizes, n, m);
-    if laid.refusal != 0 {
-        return laid.refusal;
+    let whole = laid_out(*sizes, n, m);
+    if whole.refusal != 0 {
+        return whole.refusal;
     }
-    slab::cut_slab(laid.lut, table, j, k, slab)
+    slab::cut_slab(whole.lut, table, j, k, slab)
 }
 
 // Reads a CLUT element: refusals 13, 1 to 5, 14, 15, 8. On 0 `sizes` is the element's and the first total places of `entries` are set;
