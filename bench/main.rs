@@ -17,8 +17,8 @@ mod values;
 use std::hint::black_box;
 use std::time::Instant;
 
-/// Ink counts with a size whose table is a usual one, 1 KB to about 1 MB; and few inks on two lines, where a call's fixed
-/// cost shows, since the lines that an input is compared with are few.
+/// Ink counts with a size whose table is a usual one, 1 KB to about 1 MB; and few inks on two lines, where the table is
+/// small and a call's fixed cost shows.
 const GRIDS: [(usize, u8); 14] =
     [(1, 255), (2, 33), (3, 33), (4, 17), (5, 9), (6, 6), (8, 4), (10, 3), (12, 2), (15, 2), (1, 2), (2, 2), (3, 2), (4, 2)];
 const POINTS: usize = 512;

@@ -57,6 +57,14 @@ impl Run {
         }
     }
 
+    /// Counts accepted calls that were compared elsewhere and agree.
+    pub fn compared(&mut self, calls: u64) {
+        if let Some(count) = self.counts.last_mut() {
+            count.1 += calls;
+        }
+        self.numbers[0] += calls;
+    }
+
     #[cold]
     fn fail<C: Case>(&mut self, case: &C) -> ! {
         let (kind, count) = self.counts.last().copied().unwrap_or(("", 0));

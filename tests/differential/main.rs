@@ -16,6 +16,7 @@ mod huge_slabs;
 mod layouts;
 mod library;
 mod limits;
+mod lines;
 mod lookups;
 mod nodes;
 mod random;
@@ -53,5 +54,6 @@ fn main() {
     fixed::all(run, rng, long);
     down::all(run, rng, long);
     huge_slabs::all(run, rng, long);
+    lines::all(run, rng, long);
     run.end();
 }

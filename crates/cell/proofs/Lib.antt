@@ -1,4 +1,5 @@
 -- `Within`: where the product and what is made of it lie. `Laws`: what callers may rely on of a cell. `Unique`: one outcome for each public function. Assumes nothing.
 pub mod Within
+pub mod Digits
 pub mod Laws
 pub mod Unique

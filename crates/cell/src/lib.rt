@@ -23,16 +23,19 @@ pub fn clip(x: f32) -> f32
     0.0
 }
 
-// The whole part of a product: how many grid lines from 1 up it reaches.
+// The whole part of a product, from its exponent and its fraction: of the 24 digits, the leading one
+// and the fraction, those behind the point are shifted out; below 1 that is all of them.
+// (The difference wraps for no product. A NaN that came here would count as 0.)
 fn whole_part(p: f32) -> usize
     requires { ⌜ Below 255 p ⌝ }
     ensures { λ r. ⌜ r ≡ wholeOf p ⌝ }
 {
-    let mut k: u16 = 0;
-    while (k + 1) as f32 <= p {
-        k += 1;
+    let b = f32::to_bits(p);
+    let behind = std::num::wrapping_sub_u32(150, b / 0x80_0000);
+    if behind > 23 {
+        return 0;
     }
-    k as usize
+    ((b % 0x80_0000 + 0x80_0000) >> behind) as usize
 }
 
 // A product rounded up to a whole number, from its whole part.

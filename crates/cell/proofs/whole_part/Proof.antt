@@ -1,67 +1,55 @@
--- `cell::whole_part` meets its contract. The loop's invariant: k is at most the whole part of p, which is below 255. The measure is what is left to 255.
+-- `cell::whole_part` meets its contract: the digits of p without those behind the point are its whole part, and where all stand behind it none is left.
 -- Assumes nothing.
-use mathlib.Core.Path.{_≡_, sym, _∙_}
-use Prim.Native.Nat.{ℕ, _+_, _-_, _≤_, _<_}
-use native.Mathlib.Nat.{le-trans}
-use native.Mathlib.Numerals.{add-one-le}
+use mathlib.Core.Path.{_≡_, sym, ap, _∙_}
+use Prim.Native.Nat.{ℕ, _/_, _^_, _<_}
+use mathlib.Core.Bool.{not}
 use native.Mathlib.Omega.{arith}
-use lib.Dec.{leb, lit≤}
-use lib.Ieee.{Float, binary32, le}
+use lib.Dec.{T}
+use lib.Ieee.{Float, nan, inf, fin, binary32, isNan, toBits}
+use mir.Facts.{fits-div}
 use borrow.Author.Needs.{needs}
-use borrow.Author.Tests.{leb-true, leb-false}
 use Rattle.binary32.specs.Range.{Below}
-use Rattle.cell.specs.Rule.{line, wholeOf}
-use Rattle.binary32.proofs.Whole.{line-le, whole-lt}
+use Rattle.cell.specs.Rule.{wholeOf}
+use Rattle.cell.proofs.Digits.{digits, behind, none-left, exponent-le, whole-digits}
 use Rattle.cell.proofs.whole_part.Statement.{statement}
 use Rattle.cell.proofs.whole_part.Tie as tie
 
--- the test against a line, as one of the whole part
-at-line : (p : Float) (k : ℕ) → Below 255 p → k < 255 → le (line (k + 1)) p ≡ leb (k + 1) (wholeOf p)
-at-line p k h l = line-le binary32 64 255 (k + 1) p (lit≤ tt) (le-trans (add-one-le l) (lit≤ tt)) h
+no-nan : (p : Float) → Below 255 p → T (not (isNan p))
+unfolding isNan
+no-nan nan h = h
+no-nan (inf s) h = tt
+no-nan (fin s m e) h = tt
 
-abbrev Inv-loop : tie.InvT-loop
-Inv-loop p k₀ k = k ≤ wholeOf p
+float-to-bits-b : tie.Need-float-to-bits-b
+float-to-bits-b c = no-nan (c .args .p) (c .pre)
 
-abbrev μ-loop : tie.MeasureT-loop
-μ-loop p k₀ k = 255 - k
+wrapping-sub-u32-requires : tie.Need-wrapping-sub-u32-requires
+wrapping-sub-u32-requires c κs = search needs
 
--- at the loop's head k is below 255
-short : (c : tie.At-loop Inv-loop μ-loop) → c .loop .k < 255
-short c = omega (arith, whole-lt 64 255 (c .before .args .p) (lit≤ tt) (c .before .pre))
+-- the difference does not wrap
+is-behind : (c : tie.After-wrapping-sub-u32) → c .wrapping-sub-u32 .result ≡ behind (toBits binary32 (c .before .args .p))
+is-behind c =
+    let word : c .wrapping-sub-u32 .result < 2 ^ 32 = c .wrapping-sub-u32 .ok in
+    omega (arith, c .wrapping-sub-u32 .ensures, exponent-le (c .before .args .p) (c .before .pre))
 
-loop-holds : tie.Need-loop-holds Inv-loop μ-loop
-loop-holds c = search needs
+-- what is left of the digits
+is-whole : (c : tie.After-wrapping-sub-u32) → digits (toBits binary32 (c .before .args .p)) / 2 ^ (c .wrapping-sub-u32 .result) ≡ wholeOf (c .before .args .p)
+is-whole c = let b = toBits binary32 (c .before .args .p) in ap (λ (k : ℕ). digits b / 2 ^ k) (is-behind c) ∙ whole-digits (c .before .args .p) (c .before .pre)
 
-add-if1 : tie.Need-add-if1 Inv-loop μ-loop
-add-if1 c = omega (arith, short c)
+returns : tie.Need-returns
+returns c = let at = c .before in sym (none-left (toBits binary32 (at .before .args .p)) (at .wrapping-sub-u32 .result) (omega (arith, c .if1 .taken))) ∙ is-whole at
 
-int-to-float-if1 : tie.Need-int-to-float-if1 Inv-loop μ-loop
-int-to-float-if1 c = tt
+add-result : tie.Need-add-result
+add-result c = search needs
 
-add-k : tie.Need-add-k Inv-loop μ-loop
-add-k c = omega (arith, short (c .before .before))
+shr-result : tie.Need-shr-result
+shr-result c = omega (arith, c .if1 .left)
 
-loop-less : tie.Need-loop-less Inv-loop μ-loop
-loop-less c = omega (arith, short (c .before .before))
+cast-result : tie.Need-cast-result
+cast-result c = fits-div (2 ^ c .before .wrapping-sub-u32 .result) (record { fits = omega arith })
 
-loop-again : tie.Need-loop-again Inv-loop μ-loop
-loop-again c =
-    let at = c .before .before in
-    let p = at .before .args .p in
-    let k = at .loop .k in
-    leb-true (k + 1) (wholeOf p) (sym (at-line p k (at .before .pre) (short at)) ∙ c .if1 .taken)
-
-cast-result : tie.Need-cast-result Inv-loop μ-loop
-cast-result c = omega (arith, short (c .before .before))
-
-returns : tie.Need-returns Inv-loop μ-loop
-returns c =
-    let at = c .before .before in
-    let p = at .before .args .p in
-    let k = at .loop .k in
-    let past : wholeOf p < k + 1 = leb-false (k + 1) (wholeOf p) (sym (at-line p k (at .before .pre) (short at)) ∙ c .if1 .left) in
-    omega (arith, at .loop .inv)
+returns-2 : tie.Need-returns-2
+returns-2 c = is-whole (c .before)
 
 pub whole-part-spec : {M : Type 1} → statement M
-whole-part-spec =
-    tie.close (tie.spec Inv-loop μ-loop loop-holds add-if1 int-to-float-if1 add-k loop-less loop-again cast-result returns)
+whole-part-spec = tie.close (tie.spec float-to-bits-b wrapping-sub-u32-requires returns add-result shr-result cast-result returns-2)

@@ -1,0 +1,57 @@
+//! Inputs on and around grid lines, where the whole part of the product changes; and every input there is, for one ink.
+
+use crate::case::Run;
+use crate::library;
+use crate::lookups::Lookup;
+use crate::values::{random_inputs, Rng};
+use oracle::expected;
+
+/// The input whose quotient is the line, and as many floats as `reach` below and above it.
+fn around(g: u8, line: u8, reach: u32) -> impl Iterator<Item = f32> {
+    let near = (f32::from(line) / f32::from(g.max(2) - 1)).to_bits();
+    (near.saturating_sub(reach)..=near + reach).map(f32::from_bits)
+}
+
+fn table(rng: &mut Rng, g: u8, n: usize) -> Vec<f32> {
+    (0..expected::total(g, n, 1)).map(|_| rng.unit()).collect()
+}
+
+pub fn all(run: &mut Run, rng: &mut Rng, long: bool) {
+    run.kind("one ink at each line of each grid, and the eight inputs on either side");
+    for g in 1..=255 {
+        let table = table(rng, g, 1);
+        for line in 0..g {
+            around(g, line, 8).for_each(|x| run.hold(Lookup::good(g, 1, 1, &table, &[x])));
+        }
+    }
+    run.kind("each of six inks at each line of grids of up to 8 lines, and the two inputs on either side");
+    let mut inputs = [0.0; 6];
+    for g in 2..=8 {
+        let table = table(rng, g, 6);
+        for (ink, line) in (0..6).flat_map(|ink| (0..g).map(move |line| (ink, line))) {
+            for x in (0..20).flat_map(|_| around(g, line, 2)) {
+                random_inputs(rng, g, &mut inputs);
+                inputs[ink] = x;
+                run.hold(Lookup::good(g, 6, 1, &table, &inputs));
+            }
+        }
+    }
+    if long {
+        every_input(run, &table(rng, 255, 1));
+    }
+}
+
+/// One ink on 255 lines at every float from 0 to 1. Both are called directly here: a billion calls.
+fn every_input(run: &mut Run, table: &[f32]) {
+    run.kind("one ink on 255 lines, every input from 0 to 1");
+    let lut = oracle::Lut::new(255, 1, 1);
+    let (mut rust, mut ours) = ([0.0], [0.0]);
+    for bits in 0..=1f32.to_bits() {
+        let input = [f32::from_bits(bits)];
+        lut.lookup(table, &input, &mut rust);
+        if library::lookup(&[255; 16], 1, 1, table, &input, &mut ours) != 0 || rust[0].to_bits() != ours[0].to_bits() {
+            run.hold(Lookup::good(255, 1, 1, table, &input));
+        }
+    }
+    run.compared(u64::from(1f32.to_bits()) + 1);
+}
