@@ -1,4 +1,4 @@
--- `Within`: where the product and what is made of it lie. `Laws`: what callers may rely on of a cell. `Unique`: one outcome for each public function. Assumes nothing.
+-- `Within`: where the product and what is made of it lie. `Digits`: its whole part from its bits. `Laws`: what callers may rely on of a cell. `Unique`: one outcome for each public function. Assumes nothing.
 pub mod Within
 pub mod Digits
 pub mod Laws
