@@ -1,5 +1,5 @@
 //! Time of one lookup, the library's and the Rust text's side by side: same machine, same table, same inputs, both for
-//! release. First both must give the same bits at every input.
+//! release. First both must give the same bits at every input, but for those that demand 2 excepts (E4).
 //!
 //! Then the time of reading a CLUT element, beside a plain Rust loop: the crate's own reading rounds twice. Then that of cutting a slab, which the
 //! crate does not, beside a plain Rust loop too.
@@ -113,7 +113,7 @@ fn side_by_side(g: u8, n: usize, m: usize, table: &[f32], inputs: &[f32]) -> (f6
     let library = |inputs: &[f32], answer: &mut [f32]| {
         black_box(library::lookup(black_box(&sizes), n, m, table, inputs, answer));
     };
-    for point in inputs.chunks_exact(n) {
+    for point in inputs.chunks_exact(n).filter(|point| !oracle::excepted(g, point)) {
         let (mut a, mut b) = ([0.0f32; 15], [0.0f32; 15]);
         rust(point, &mut a);
         library(point, &mut b);

@@ -103,6 +103,12 @@ impl Case for ReadLookup {
         self.clut.number()
     }
 
+    fn parted(&self) -> Option<bool> {
+        let Clut { element, n, m, old } = &self.clut;
+        let read = clut::read(element, *n, *m, old);
+        (read.number == 0).then(|| oracle::parted(element[0], *n, *m, &read.entries, &self.inputs)).flatten()
+    }
+
     fn difference(&self) -> Option<String> {
         let Clut { element, n, m, old } = &self.clut;
         let (mut entries, mut sizes) = (old.clone(), [UNTOUCHED; 16]);

@@ -17,7 +17,7 @@ pub fn all(run: &mut Run, rng: &mut Rng, long: bool) {
     }
     run.kind("CLUTs, damaged copies of good ones");
     for _ in 0..times * 80_000 {
-        let mut call = good(rng);
+        let mut call = good(rng, &SMALL);
         for _ in 0..rng.within(1, 3) {
             damage(rng, &mut call);
         }
@@ -25,7 +25,7 @@ pub fn all(run: &mut Run, rng: &mut Rng, long: bool) {
     }
     run.kind("lookups in tables that were read from a CLUT");
     for _ in 0..times * 10_000 {
-        let clut = good(rng);
+        let clut = good(rng, &[30, 300, 1_000, 4_000]);
         let mut inputs = vec![0.0; clut.n];
         random_inputs(rng, clut.element[0], &mut inputs);
         run.hold(ReadLookup { clut, inputs });
@@ -103,9 +103,12 @@ fn old(rng: &mut Rng, len: usize) -> Vec<f32> {
     (0..len).map(|_| if rng.one_in(4) { f32::from_bits(rng.pick(&ENTRIES)) } else { rng.bits() }).collect()
 }
 
+/// Bounds of the entries of small elements.
+const SMALL: [u128; 5] = [10, 30, 100, 100, 300];
+
 /// A random accepted call: sizes that do not count, padding, old contents, bytes after the data and longer buffers are anything.
-fn good(rng: &mut Rng) -> Clut {
-    let bound = rng.pick(&[10, 30, 100, 100, 300]);
+fn good(rng: &mut Rng, bounds: &[u128]) -> Clut {
+    let bound = rng.pick(bounds);
     let (g, n, m) = counts(rng, bound);
     let (precision, total) = (rng.within(1, 2), expected::total(g, n, m) as usize);
     let after = if rng.one_in(2) { rng.below(9) } else { 0 };
@@ -118,7 +121,7 @@ fn good(rng: &mut Rng) -> Clut {
 
 /// Any sizes, mostly equal, with any counts; a length and a buffer at, one below or one above what is needed, where that is not too much.
 fn random(rng: &mut Rng) -> Clut {
-    let mut call = good(rng);
+    let mut call = good(rng, &SMALL);
     if rng.one_in(3) {
         call.n = rng.below(18);
     }

@@ -22,11 +22,6 @@ struct Fixed<'a> {
 }
 
 impl Fixed<'_> {
-    /// Demand 3 speaks of inks from the fifth on, and of the fourth of exactly four.
-    fn demanded(&self) -> bool {
-        self.j > 4 || (self.j, self.n) == (4, 4)
-    }
-
     fn others(&self) -> Vec<f32> {
         let mut inputs = self.inputs.clone();
         inputs.remove(self.j - 1);
@@ -61,6 +56,11 @@ impl Case for Fixed<'_> {
         slab::number(&[self.g; 16], self.n, self.m, self.table.len(), self.j, self.k, usize::MAX)
     }
 
+    /// Of its two lookups the one in the whole table.
+    fn parted(&self) -> Option<bool> {
+        oracle::parted(self.g, self.n, self.m, &self.table, &self.inputs)
+    }
+
     fn difference(&self) -> Option<String> {
         let answers = match self.answers() {
             Ok(answers) => answers,
@@ -68,8 +68,8 @@ impl Case for Fixed<'_> {
         };
         let right = slab::entries(self.g, self.n, self.m, &self.table, self.j, self.k);
         compare(&answers[1], &oracle::lookup(self.g, self.n - 1, self.m, &right, &self.others()))
-            .map(|told| format!("in the slab, against the Rust text: {told}"))
-            .or_else(|| self.apart(&answers).filter(|_| self.demanded()))
+            .map(|told| format!("in the slab, against the oracle: {told}"))
+            .or_else(|| self.apart(&answers))
     }
 
     fn smaller(&self, take: &mut dyn FnMut(Self) -> bool) {
@@ -124,35 +124,20 @@ fn share(rng: &mut Rng) -> f32 {
     }
 }
 
-/// `count` lookups with ink `ink(n)` of `inks` on a line, sixteen in each table. Answers how many differ between the table and the slab.
-fn lookups(run: &mut Run, rng: &mut Rng, count: usize, inks: fn(&mut Rng) -> usize, ink: fn(&mut Rng, usize) -> usize) -> usize {
-    let mut apart = 0;
-    for _ in 0..count / 16 {
-        let (n, m) = (inks(rng), if rng.one_in(8) { rng.within(1, 15) } else { rng.within(1, 4) });
+pub fn all(run: &mut Run, rng: &mut Rng, long: bool) {
+    run.kind("lookups with ink 4 or a later one on a line, four to fifteen inks, in the table and in its slab (demand 3)");
+    for _ in 0..if long { 96_000 } else { 12_000 } {
+        let (n, m) = (if rng.one_in(64) { rng.within(9, 15) } else { rng.within(4, 8) }, if rng.one_in(8) { rng.within(1, 15) } else { rng.within(1, 4) });
         let bound = rng.pick(&[300, 300, 1_000, 1_000, 4_000, 4_000, 20_000, 300_000]);
         let g = size(rng, n, m, bound);
         let table: Vec<f32> = (0..expected::total(g, n, m)).map(|_| share(rng)).collect();
         for _ in 0..16 {
-            let (j, k) = (ink(rng, n), rng.below(g as usize));
+            let (j, k) = (rng.within(4, n), rng.below(g as usize));
             let Some(x) = on_line(rng, g, k) else { continue };
             let mut inputs = vec![0.0; n];
             random_inputs(rng, g, &mut inputs);
             inputs[j - 1] = x;
-            let call = Fixed { g, n, m, table: (&table).into(), j, k, inputs, longer: rng.pick(&[0, 0, 1, 9]) };
-            run.hold_ref(&call);
-            apart += call.answers().is_ok_and(|answers| call.apart(&answers).is_some()) as usize;
+            run.hold(Fixed { g, n, m, table: (&table).into(), j, k, inputs, longer: rng.pick(&[0, 0, 1, 9]) });
         }
     }
-    apart
-}
-
-pub fn all(run: &mut Run, rng: &mut Rng, long: bool) {
-    let times = if long { 8 } else { 1 };
-    run.kind("lookups with an ink on a line, four to fifteen inks, in the table and in its slab (demand 3)");
-    let inks = |rng: &mut Rng| if rng.one_in(64) { rng.within(9, 15) } else { rng.within(4, 8) };
-    lookups(run, rng, times * 160_000, inks, |rng, n| rng.within(n.min(5), n));
-    run.kind("the same with the fourth of five or more, which demand 3 leaves out: only the slab's lookup is compared");
-    let apart = lookups(run, rng, times * 32_000, |rng| rng.within(5, 8), |_, _| 4);
-    println!("            {apart} lookups with the fourth of five or more differ between the table and its slab");
-    assert!(apart > 0, "no table shows why demand 3 leaves the fourth of five or more out");
 }

@@ -5,7 +5,7 @@
 use crate::case::Run;
 use crate::lookups::Lookup;
 use crate::values::{before, random_inputs, with_product, Rng};
-use oracle::expected;
+use oracle::{definition::product, expected, skips};
 use std::ffi::c_void;
 
 extern "C" {
@@ -40,7 +40,7 @@ impl Drop for Zeros {
 
 pub fn lookups(run: &mut Run, rng: &mut Rng, long: bool) {
     run.kind("lookups in tables of up to 4,294,967,295 entries");
-    // The largest accepted layouts for four to eight inks; five of 66 lines, where a product just under 64 skips a node.
+    // The largest accepted layouts for four to eight inks; five of 66 lines, the fewest with which p+1 skips a node just under 64.
     for (g, n, m) in [(255, 4, 1), (138, 4, 11), (84, 5, 1), (66, 5, 3), (40, 6, 1), (23, 7, 1), (15, 8, 1)] {
         assert_eq!(expected::layout(&[g; 16], n, m), 0);
         let Some(mut zeros) = Zeros::new(expected::total(g, n, m) as usize) else {
@@ -56,26 +56,21 @@ pub fn lookups(run: &mut Run, rng: &mut Rng, long: bool) {
                 2 => inputs[n - 1 - i / 4 % 2] = with_product(g, before(64.0)).unwrap_or(1.0),
                 _ => {}
             }
-            around(rng, zeros.entries(), g, n, m, &inputs);
+            around(rng, zeros.entries(), g, m, &inputs);
             run.hold(Lookup::good(g, n, m, &*zeros.entries(), &inputs));
         }
     }
 }
 
-/// Random entries at the nodes around the inputs: those of each ink's line, of the next and of the one after it.
-fn around(rng: &mut Rng, table: &mut [f32], g: u8, n: usize, m: usize, inputs: &[f32]) {
-    let last = g as usize - 1;
-    let lines: Vec<[usize; 3]> = inputs
-        .iter()
-        .map(|x| {
-            let low = (x.max(0.0).min(1.0) * last as f32) as usize;
-            [low, (low + 1).min(last), (low + 2).min(last)]
-        })
-        .collect();
-    for corner in 0..3usize.pow(n as u32) {
-        let node: Vec<usize> = (0..n).map(|i| lines[i][corner / 3usize.pow(i as u32) % 3]).collect();
-        for entry in &mut table[expected::node_offset(g, m, &node)..][..m] {
-            *entry = rng.unit();
-        }
+/// Random entries at the nodes around the inputs: those of each ink's line, of the next and, where p+1 skips that one, of the one after it.
+pub fn around(rng: &mut Rng, table: &mut [f32], g: u8, m: usize, inputs: &[f32]) {
+    let mut nodes = vec![0];
+    for &x in inputs {
+        let low = product(g, x) as usize;
+        let high = (low + 1 + usize::from(skips(g, x))).min(g as usize - 1);
+        nodes = nodes.iter().flat_map(|node| (low..=high).map(move |k| node * g as usize + k)).collect();
+    }
+    for node in nodes {
+        table[node * m..][..m].fill_with(|| rng.unit());
     }
 }

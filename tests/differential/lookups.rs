@@ -45,6 +45,10 @@ impl Case for Lookup<'_> {
         expected::lookup(&self.sizes, self.n, self.m, self.table.len(), self.inputs.len(), self.answer)
     }
 
+    fn parted(&self) -> Option<bool> {
+        (self.number() == 0).then(|| oracle::parted(self.sizes[0], self.n, self.m, &self.table, &self.inputs)).flatten()
+    }
+
     fn difference(&self) -> Option<String> {
         let mut buffer = guarded(self.answer);
         let lent = &mut buffer[GUARD..GUARD + self.answer];

@@ -20,6 +20,7 @@ mod lines;
 mod lookups;
 mod nodes;
 mod random;
+mod skipped;
 mod slabs;
 mod values;
 
@@ -34,6 +35,9 @@ fn main() {
         println!("Signalling NaN inputs are left out on Arm: the compiled Rust clips them to 1 there, document 01 to +0.0.");
     }
     let (run, rng) = (&mut case::Run::new(), &mut values::Rng(seed));
+    skipped::condition();
+    skipped::codes();
+    skipped::definition(rng);
     exhaustive::checked(run);
     layouts::all(run, rng);
     cubes::weights(run);
@@ -41,6 +45,8 @@ fn main() {
     limits::lookups(run, rng);
     exhaustive::short(run, rng, long);
     exhaustive::skips(run, rng, long);
+    skipped::examples(run);
+    skipped::lookups(run, rng, long);
     if !values::SIGNALLING_LEFT_OUT {
         exhaustive::signalling(run, rng);
     }

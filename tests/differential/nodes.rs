@@ -48,14 +48,14 @@ impl Case for Node<'_> {
 
 pub fn all(run: &mut Run, rng: &mut Rng) {
     let table: Vec<f32> = (0..40_000).map(|i| i as f32).collect();
-    run.kind("every node of small grids; the crate's lookup there answers the same entries");
+    run.kind("every node of small grids; both oracles' lookups there answer the same entries");
     for (g, n, m) in [(1, 15, 1), (2, 1, 2), (5, 1, 15), (255, 1, 1), (3, 2, 3), (2, 3, 4), (4, 3, 2), (3, 4, 3), (2, 7, 3), (3, 6, 2), (2, 12, 1)] {
         let total = expected::total(g, n, m) as usize;
         for node in 0..total / m {
             let coordinates: Vec<usize> = (0..n).map(|i| node / (g as usize).pow((n - 1 - i) as u32) % g as usize).collect();
             let inputs: Vec<f32> = coordinates.iter().map(|&k| k as f32 / f32::from(g.max(2) - 1)).collect();
-            let answer = oracle::lookup(g, n, m, &table[..total], &inputs);
-            assert_eq!(answer, table[node * m..][..m], "ICC.1's node order is not the crate's");
+            let answers = [oracle::rust_lookup(g, n, m, &table[..total], &inputs), oracle::definition::lookup(&vec![g; n], m, &table[..total], &inputs)];
+            assert!(answers.iter().all(|a| a[..] == table[node * m..][..m]), "ICC.1's node order is not an oracle's: {answers:?}");
             run.hold(Node { sizes: [g; 16], n, m, table: &table[..total], coordinates });
         }
     }

@@ -75,7 +75,7 @@ pub fn with_product(g: u8, p: f32) -> Option<f32> {
     with_products(g, p).next()
 }
 
-/// The inputs whose product is just under a power of two: there p+1 skips a node for inks 5 and up.
+/// The inputs whose product is just under a power of two: there the rounded p+1 skips a node, if g leaves room for it.
 pub fn skipping(g: u8) -> Vec<f32> {
     (0..8).map(|k| before((1u32 << k) as f32)).filter(|&p| g > 1 && p < f32::from(g - 1)).filter_map(|p| with_product(g, p)).collect()
 }

@@ -64,6 +64,19 @@ static void layout_calls(void) {
     EXPECT(tenahvar_layout(sizes_of(2, 0), 1, 1, strides, filling, scale) == TENAHVAR_DONE);
 }
 
+/* Document 01's case 12 with the answer of document 02 (E4): just under line 1 ink 5 is blended with line 1 and not with line 2. */
+static void case_12(void) {
+    const uint32_t just_under = 0x3EFFFFFF, nearly_one = 0x3F7FFFFF;
+    float table[243] = {0}, inks[5] = {0}, answer = UNTOUCHED, weight;
+    memcpy(&inks[4], &just_under, sizeof just_under);
+    memcpy(&weight, &nearly_one, sizeof nearly_one);
+    table[2] = 1.0f;
+    EXPECT(tenahvar_lookup(sizes_of(3, 3), 5, 1, table, 243, inks, 5, &answer, 1) == TENAHVAR_DONE && all(&answer, 1, 0.0f));
+    table[1] = 1.0f;
+    table[2] = 0.0f;
+    EXPECT(tenahvar_lookup(sizes_of(3, 3), 5, 1, table, 243, inks, 5, &answer, 1) == TENAHVAR_DONE && all(&answer, 1, weight));
+}
+
 static void lookup_calls(void) {
     const float line[] = {0.0f, 1.0f}, square[] = {0.0f, 1.0f, 2.0f, 3.0f}, cube[] = {0, 0, 0, 0, 0, 0, 0, 1};
     const float inks[] = {0.5f, 0.25f, 0.75f};
@@ -130,6 +143,7 @@ static void cube_calls(cube_method *method, float colour) {
 int main(void) {
     layout_calls();
     lookup_calls();
+    case_12();
     node_calls();
     weight_calls();
     cube_calls(tenahvar_pyramidal, 0.25f);

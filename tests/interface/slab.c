@@ -180,16 +180,22 @@ static void bits(void) {
     }
 }
 
-/* The fourth of four inks on a line can be left out. */
+/* The fourth ink on a line can be left out: of four, and of five, with ink 5 just under line 1. */
 static void looked_up(void) {
-    const float inks[] = {0.3f, 0.8f, 0.55f, 0.5f};
-    float shares[81], answer = UNTOUCHED, fewer = UNTOUCHED;
-    for (int e = 0; e < 81; e++) shares[e] = (float)(e * 37 % 64) / 64.0f;
+    const uint32_t just_under = 0x3EFFFFFF;
+    float inks[] = {0.3f, 0.8f, 0.55f, 0.5f, 0.0f}, others[] = {0.3f, 0.8f, 0.55f, 0.0f};
+    float shares[243], answer, fewer;
+    for (int e = 0; e < 243; e++) shares[e] = (float)(e * 37 % 64) / 64.0f;
+    memcpy(&inks[4], &just_under, sizeof just_under);
+    others[3] = inks[4];
     put(3);
-    EXPECT(tenahvar_cut_slab(sizes, 4, 1, shares, 81, 4, 1, slab, ROOM) == TENAHVAR_DONE);
-    EXPECT(tenahvar_lookup(sizes, 4, 1, shares, 81, inks, 4, &answer, 1) == TENAHVAR_DONE);
-    EXPECT(tenahvar_lookup(sizes, 3, 1, slab, ROOM, inks, 3, &fewer, 1) == TENAHVAR_DONE);
-    EXPECT(same(answer, fewer) && answer > 0.0f);
+    for (size_t n = 4, total = 81; n <= 5; n++, total *= 3) {
+        answer = fewer = UNTOUCHED;
+        EXPECT(tenahvar_cut_slab(sizes, n, 1, shares, total, 4, 1, slab, ROOM) == TENAHVAR_DONE);
+        EXPECT(tenahvar_lookup(sizes, n, 1, shares, total, inks, n, &answer, 1) == TENAHVAR_DONE);
+        EXPECT(tenahvar_lookup(sizes, n - 1, 1, slab, ROOM, others, n - 1, &fewer, 1) == TENAHVAR_DONE);
+        EXPECT(same(answer, fewer) && answer > 0.0f);
+    }
 }
 
 int main(void) {

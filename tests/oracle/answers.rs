@@ -47,7 +47,7 @@ fn zero_unsigned(input: f32) -> f32 {
 }
 
 /// The crate's m answers for an accepted call: n 1..15, m 1..15, a table of at least gⁿ·m entries, n inputs.
-pub fn lookup(g: u8, n: usize, m: usize, table: &[f32], inputs: &[f32]) -> Vec<f32> {
+pub fn rust_lookup(g: u8, n: usize, m: usize, table: &[f32], inputs: &[f32]) -> Vec<f32> {
     let inputs: Vec<f32> = inputs.iter().map(|&x| zero_unsigned(x)).collect();
     let mut answer = vec![0.0; m];
     Lut::new(g, n, m).lookup(table, &inputs, &mut answer);

@@ -107,6 +107,8 @@ pub struct List {
     pub stdout: String,
     pub counts: [usize; 12],
     pub entries: usize,
+    /// How many lookups demand 2 excepts (E4), and in how many of them the crate's answers are others.
+    pub excepted: [usize; 2],
 }
 
 impl List {
@@ -141,6 +143,10 @@ impl List {
         if number == 0 {
             let (g, n, m) = expected::accepted(&record).expect("an accepted record");
             let inputs: Vec<f32> = inputs.iter().map(|&b| f32::from_bits(b)).collect();
+            if let Some(parted) = oracle::parted(g, n, m, &entries, &inputs) {
+                self.excepted[0] += 1;
+                self.excepted[1] += usize::from(parted);
+            }
             for (o, a) in oracle::lookup(g, n, m, &entries, &inputs).iter().enumerate() {
                 buffer[o] = a.to_bits();
             }

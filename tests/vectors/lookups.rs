@@ -28,7 +28,7 @@ fn good(list: &mut List, g: u8, m: usize, table: &Table, inputs: &[f32], more: u
     list.lookup(Asked::whole(g, inputs.len(), m), table, inputs, m + more);
 }
 
-/// Document 01's cases P6, P7, P8 and 12.
+/// Document 01's cases P6, P7, P8 and 12, the last with the answer 0 of document 02's E4.
 pub fn checked(list: &mut List) {
     let ones = |len: usize, place: usize| Table::Words((0..len).map(|i| if i == place { 0x3F80_0000 } else { 0 }).collect());
     for input in [0.25, f32::NAN, 2.0] {
@@ -38,7 +38,7 @@ pub fn checked(list: &mut List) {
     good(list, 2, 1, &ones(8, 7), &[0.5, 0.25, 0.75], 0);
     let ink_5 = f32::from_bits(0x3EFF_FFFF);
     good(list, 3, 1, &ones(243, 2), &[0.0, 0.0, 0.0, 0.0, ink_5], 0);
-    // The same product at ink 4 of five takes the next line.
+    // Ink 4 of five takes the next line too at this product.
     good(list, 3, 1, &ones(243, 6), &[0.0, 0.0, 0.0, ink_5, 0.0], 0);
 }
 

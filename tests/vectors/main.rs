@@ -1,5 +1,5 @@
 //! Writes the vectors that the program `replay` is held to: FOLDER/stdin and FOLDER/stdout. The answers are the oracle's,
-//! the numbers document 01's. The same files come out on every machine.
+//! the numbers document 01's. The same files come out on every machine. Without a lookup that shows E4's difference from the crate it ends.
 
 mod cluts;
 mod list;
@@ -35,4 +35,7 @@ fn main() {
         "vectors: {} cases ({}); stdin {} bytes, stdout {} bytes, {} table entries in all",
         list.counts.iter().sum::<usize>(), told.join(", "), list.stdin.len(), list.stdout.len(), list.entries
     );
+    let [excepted, parted] = list.excepted;
+    println!("vectors: {excepted} lookups are excepted from demand 2 (E4); in {parted} of them the Rust text answers otherwise");
+    assert!(parted > 0, "no stored lookup shows the upper node of E4");
 }

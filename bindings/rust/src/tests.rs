@@ -91,16 +91,18 @@ fn colours() {
 }
 
 #[test]
-fn ink_five_has_its_own_upper_node() {
-    let mut table = vec![0.0; 243];
-    table[2] = 1.0;
-    let mut answer = [UNTOUCHED];
+fn just_under_a_line_ink_five_is_blended_with_that_line() {
     let inputs = [0.0, 0.0, 0.0, 0.0, f32::from_bits(0x3EFF_FFFF)];
-    assert_eq!(
-        lookup(&Grid::new(3, 5, 1), &table, &inputs, &mut answer),
-        Ok(())
-    );
-    assert_eq!(answer[0].to_bits(), 0x3F7F_FFFF);
+    for (line, bits) in [(0, 0x3380_0000), (1, 0x3F7F_FFFF), (2, 0)] {
+        let mut table = vec![0.0; 243];
+        table[line] = 1.0;
+        let mut answer = [UNTOUCHED];
+        assert_eq!(
+            lookup(&Grid::new(3, 5, 1), &table, &inputs, &mut answer),
+            Ok(())
+        );
+        assert_eq!(answer[0].to_bits(), bits, "1 at line {line}");
+    }
 }
 
 #[test]

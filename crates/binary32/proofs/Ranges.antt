@@ -4,9 +4,9 @@ use mathlib.Core.Path.{refl, sym, subst}
 use Prim.Native.Nat.{ℕ, zero, suc, _+_, _*_, _^_, _≤_, _<_}
 use native.Mathlib.Nat.{le-trans, le-of-eq, le-of-lt, lt-of-le-of-lt, lt-of-lt-of-le, zero-lt-suc, mul-one, mul-pos, mul-right-comm, mul-le-mul-right, mul-lt-mul-of-pos-right, lt-of-mul-lt-mul-right, le-of-mul-le-mul-right}
 use native.Mathlib.Omega.{arith}
-use mathlib.Core.Bool.{Bool, true, false, not, _||_, cond, true≢false}
-use lib.Dec.{T, ltb, leb→le, ltb→lt}
-use lib.Ieee.{Float, nan, inf, fin, Format, binary32, prec, emax, low, down, odd, units, round, lt, le, eq, fits}
+use mathlib.Core.Bool.{Bool, true, false, not, cond, true≢false}
+use lib.Dec.{T, ltb, leb→le}
+use lib.Ieee.{Float, nan, inf, fin, Format, binary32, prec, emax, low, down, odd, units, round, le, fits}
 use lib.Ieee.Fits.{down-pos, round-is, round-fits}
 use lib.Ieee.Exact.{HasValue}
 use lib.Ieee.Back.{round-whole}
@@ -14,7 +14,7 @@ use lib.Ieee.Order.{round-mono}
 use lib.Ieee.Positive.{num, den, den-pos}
 use Rattle.binary32.specs.Numbers.{ofWhole, unitOf}
 use Rattle.binary32.specs.Range.{UpTo, Below, Within, Share}
-use Rattle.binary32.proofs.Values.{lt-is, le-is, div-values, line-value}
+use Rattle.binary32.proofs.Values.{le-is, div-values, line-value}
 
 -- ---- from a value, and back
 pub below-value : (x : Float) (n a c : ℕ) → HasValue x false a c → a < n * c → Below n x
@@ -71,10 +71,6 @@ clear nan = false
 clear (inf s) = not s
 clear (fin s m e) = not s
 
-or-left : (a b : Bool) → T a → T (a || b)
-or-left true b t = tt
-or-left false b t = absurd t
-
 -- what is no more than a finite value is finite
 own-of-le : (x y : Float) (n : ℕ) → T (clear x) → HasValue y false n 1 → T (le x y) → HasValue x false (num x) (den x)
 own-of-le nan y n s v h = absurd s
@@ -86,19 +82,11 @@ own-of-le (fin true m e) y n s v h = absurd s
 own-of-le (fin false m e) y n s v h = (refl, refl)
 
 -- a value with a clear sign, by a comparison with the whole number n
-module _ (x y : Float) (n : ℕ) (s : T (clear x)) (v : HasValue y false n 1) where
-  pub upTo-of-le : T (le x y) → UpTo n x
-  upTo-of-le h =
-      let o = own-of-le x y n s v h in
-      upTo-value x n (num x) (den x) (den-pos x) o
-      (le-trans (le-of-eq (sym (mul-one (num x)))) (leb→le (num x * 1) (n * den x) (subst T (le-is x y (num x) (den x) n 1 (den-pos x) (zero-lt-suc 0) o v) h)))
-
-  pub below-of-lt : T (lt x y) → Below n x
-  unfolding le
-  below-of-lt h =
-      let o = own-of-le x y n s v (or-left (lt x y) (eq x y) h) in
-      below-value x n (num x) (den x) o
-      (lt-of-le-of-lt (le-of-eq (sym (mul-one (num x)))) (ltb→lt (num x * 1) (n * den x) (subst T (lt-is x y (num x) (den x) n 1 (den-pos x) (zero-lt-suc 0) o v) h)))
+upTo-of-le : (x y : Float) (n : ℕ) → T (clear x) → HasValue y false n 1 → T (le x y) → UpTo n x
+upTo-of-le x y n s v h =
+    let o = own-of-le x y n s v h in
+    upTo-value x n (num x) (den x) (den-pos x) o
+    (le-trans (le-of-eq (sym (mul-one (num x)))) (leb→le (num x * 1) (n * den x) (subst T (le-is x y (num x) (den x) n 1 (den-pos x) (zero-lt-suc 0) o v) h)))
 
 -- ---- of a rounded fraction
 odd-clear : (d q k l : ℕ) → T (clear (odd d false q k l))

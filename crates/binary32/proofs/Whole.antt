@@ -1,20 +1,19 @@
--- The whole part of a value below n, in either format: `whole-is`, `whole-lt`, what the cast to an integer of w bits gives; `line-le`, the value reaches a whole number exactly
--- where its whole part does; `rest-exact`, the value minus its whole part is not rounded. Assumes nothing.
+-- The whole part of a value below n, in either format: `whole-is`, `whole-lt`, what the cast to an integer of w bits gives; `rest-exact`, the value minus its whole part is not rounded. Assumes nothing.
 use mathlib.Core.Path.{_≡_, refl, sym, ap, _∙_, subst}
 use Prim.Native.Nat.{ℕ, suc, _-_, _*_, _/_, _%_, _^_, _≤_, _<_, min, zero-le}
-use native.Mathlib.Nat.{le-trans, le-of-eq, le-of-lt, lt-of-le-of-lt, lt-of-lt-of-le, zero-lt-suc, mul-one, mul-pos, div-lt-iff-lt-mul, div-mul-le-self, le-div-iff-mul-le, mod-one, mod-le, mod-eq-sub-div-mul}
+use native.Mathlib.Nat.{le-trans, le-of-eq, le-of-lt, lt-of-le-of-lt, lt-of-lt-of-le, zero-lt-suc, mul-one, mul-pos, div-lt-iff-lt-mul, div-mul-le-self, mod-one, mod-le, mod-eq-sub-div-mul}
 use native.Mathlib.Omega.{arith}
 use mathlib.Core.Bool.{true, false}
-use lib.Dec.{T, leb}
+use lib.Dec.{T}
 use lib.IntN.{ℤ, pos, negsuc}
-use lib.Ieee.{Float, nan, inf, fin, Format, prec, up, down, round, sub, le, ofInt, toUnsigned, fits}
+use lib.Ieee.{Float, nan, inf, fin, Format, prec, up, down, round, sub, ofInt, toUnsigned, fits}
 use lib.Ieee.Fits.{down-pos}
 use lib.Ieee.Exact.{HasValue}
 use lib.Ieee.Back.{round-whole}
 use lib.Ieee.Scale.{round-same}
 use lib.Ieee.Positive.{num, den, den-pos}
 use Rattle.binary32.specs.Range.{Below}
-use Rattle.binary32.proofs.Values.{same-ltb, same-leb, le-is, sub-values, line-value}
+use Rattle.binary32.proofs.Values.{sub-values, line-value}
 use Rattle.binary32.proofs.Exact.{fits-says, round-keeps}
 use Rattle.binary32.proofs.Ranges.{below-own}
 
@@ -31,16 +30,6 @@ whole-is w n (fin false m e) N h = uncapped (m * up e / down e) (2 ^ w) (lt-of-l
 
 pub whole-lt : (w n : ℕ) (x : Float) → n ≤ 2 ^ w → Below n x → toUnsigned w x < n
 whole-lt w n x N h = subst (λ (k : ℕ). k < n) (sym (whole-is w n x N h)) (div-lt-iff-lt-mul (den-pos x) .1 (below-own n x h .1))
-
--- x reaches a whole number exactly where its whole part does
-pub line-le : (f : Format) (w n k : ℕ) (x : Float) → n ≤ 2 ^ w → k ≤ 2 ^ prec f → Below n x → le (ofInt f (pos k)) x ≡ leb k (toUnsigned w x)
-line-le f w n k x N K h =
-    let a = num x in
-    let c = den x in
-    le-is (ofInt f (pos k)) x k 1 a c (zero-lt-suc 0) (den-pos x) (line-value f k K) (below-own n x h .0)
-    ∙ ap (λ (z : ℕ). leb (k * c) z) (mul-one a)
-    ∙ same-leb a (k * c) (a / c) k (same-ltb a (k * c) (a / c) k (le-div-iff-mul-le (den-pos x) .1) (le-div-iff-mul-le (den-pos x) .0))
-    ∙ ap (λ (z : ℕ). leb k z) (sym (whole-is w n x N h))
 
 -- ---- what is left
 -- the part of a value that its denominator leaves is a value

@@ -12,7 +12,7 @@ use lib.Pow.{pow-pos, pow-mono, pow-add, shr-shr}
 use lib.Ieee.{Float, nan, inf, fin, binary32, up, down, size, toBits}
 use lib.Ieee.Digits.{size-le, size-reaches}
 use lib.Ieee.Fits.{kept-lt}
-use lib.Ieee.Positive.{num, den, den-pos}
+use lib.Ieee.Positive.{num, den}
 use Rattle.binary32.specs.Range.{Below}
 use Rattle.binary32.proofs.Whole.{whole-is, whole-lt}
 use Rattle.cell.specs.Rule.{wholeOf}

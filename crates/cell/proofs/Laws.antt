@@ -1,5 +1,6 @@
 -- What callers may rely on of a cell, for any size g that a byte holds. (At g = 0 the cell is that of g = 1.)
--- `low-on-grid`, `high-on-grid`: both nodes are at most g - 1, in order, and the weight is from +0 up and below 1.
+-- `low-on-grid`, `high-on-grid`: both nodes are at most g - 1, one or neighbours, and the weight is from +0 up and below 1.
+-- `rules-alike`: the two rules give one lower node and one weight, and one upper node too unless that weight is +0.
 -- `low-fits`, `high-fits`: the weight is a value of binary32; `low-share`, `high-share`: so it is one from 0 to 1.
 -- `low-line`, `high-line`: where the product is grid line k, the lower node is k and the weight is +0, and for inks 1 to 4 the upper node is k too.
 -- `product-line`: such a k is a line of the grid. `line-of-weight`: a weight of +0 says that the product is a grid line. `low-one`, `high-one`: with one line a cell is node 0 with weight +0.
@@ -10,6 +11,7 @@ use native.Mathlib.Nat.{le-refl, le-trans, le-of-eq, lt-of-lt-of-le, lt-of-le-of
 use native.Mathlib.Decide.{decLt}
 use native.Mathlib.Omega.{arith}
 use mathlib.Core.Bool.{false}
+use mathlib.Core.Logic.{_⊎_}
 use borrow.Author.Tests.{le-ltb}
 use lib.Arith.{le-zero}
 use lib.IntN.{pos}
@@ -23,33 +25,51 @@ use Rattle.binary32.specs.Range.{UpTo, Below, Share}
 use Rattle.binary32.specs.Numbers.{plusZero}
 use Rattle.binary32.proofs.Values.{lt-is, sub-values, zero-value, revalue}
 use Rattle.binary32.proofs.Exact.{round-zero}
-use Rattle.binary32.proofs.Ranges.{upTo-own, below-own, below-value, below-share, round-from}
+use Rattle.binary32.proofs.Ranges.{upTo-own, below-own, below-share, round-from}
+use Rattle.cell.specs.declared.Cell.{Cell}
 use Rattle.cell.specs.Rule.{OnGrid, line, productOf, wholeOf, upOf, weightOf, nextOf, cellAt, cellLow, cellHigh}
-use Rattle.cell.proofs.Within.{last, line-is, product-upTo, product-fits, in-grid, whole-le, up-le, whole-le-up, weight-value, weight-below, whole-div, next-le, whole-le-next, whole-line}
+use Rattle.cell.proofs.Within.{last, line-is, product-upTo, product-fits, in-grid, whole-le, up-le, whole-le-up, up-le-next, weight-value, weight-below, up-or-none, whole-div, next-le, le-next, next-le-next, whole-line}
 
 -- ---- both nodes and the weight
 module _ (x : Float) (g : ℕ) (G : g < 256) where
-  -- the cell of the product, with an upper node from the lower one to g - 1
-  on-grid : (upper : ℕ) → upper ≤ g - 1 → wholeOf (productOf x g) ≤ upper → OnGrid (g - 1) (cellAt (productOf x g) upper)
-  on-grid upper h k =
+  -- the cell of the product, with an upper node in the grid that is the lower one or the next
+  on-grid : (upper : ℕ) → upper ≤ g - 1 → wholeOf (productOf x g) ≤ upper → upper ≤ wholeOf (productOf x g) + 1 → OnGrid (g - 1) (cellAt (productOf x g) upper)
+  on-grid upper h k l =
       let p = productOf x g in
       record {
         lower = whole-le (g - 1) p (last g G) (product-upTo x g G);
         upper = h;
         ordered = k;
+        neighbours = l;
         weight = weight-below (g - 1) p (last g G) (product-upTo x g G) (product-fits x g);
       }
 
   pub low-on-grid : OnGrid (g - 1) (cellLow x g)
   unfolding cellLow
-  low-on-grid = let p = productOf x g in on-grid (upOf p) (up-le (g - 1) p (last g G) (product-upTo x g G)) (whole-le-up (g - 1) p (last g G) (product-upTo x g G))
+  low-on-grid = let p = productOf x g in on-grid (upOf p) (up-le (g - 1) p (last g G) (product-upTo x g G)) (whole-le-up p) (up-le-next p)
 
   pub high-on-grid : OnGrid (g - 1) (cellHigh x g)
   unfolding cellHigh
   high-on-grid =
-      let p = productOf x g in
-      let h = in-grid (g - 1) p (last g G) (product-upTo x g G) in
-      on-grid (nextOf p g) (next-le p h g G) (whole-le-next p h g G (whole-le (g - 1) p (last g G) (product-upTo x g G)))
+      let lower = wholeOf (productOf x g) in
+      on-grid (nextOf lower g) (next-le lower g) (le-next lower g (whole-le (g - 1) (productOf x g) (last g G) (product-upTo x g G))) (next-le-next lower g)
+
+-- ---- the two rules
+
+-- two cells that entries from 0 to 1 cannot tell apart: the upper nodes may differ where they have no weight
+pub record Alike (c d : Cell) : Type 0 where
+  pub lower : c .x ≡ d .x
+  pub weight : c .w ≡ d .w
+  pub upper : (c .«x_n» ≡ d .«x_n») ⊎ (d .w ≡ plusZero)
+
+pub rules-alike : (x : Float) (g : ℕ) → g < 256 → Alike (cellHigh x g) (cellLow x g)
+unfolding cellHigh cellLow
+rules-alike x g G =
+    record {
+      lower = refl;
+      weight = refl;
+      upper = up-or-none (g - 1) (productOf x g) (last g G) (product-upTo x g G) (product-fits x g) g refl;
+    }
 
 -- ---- the weight is a binary32 value from 0 to 1
 weight-fits : (p : Float) → T (fits binary32 (weightOf p))
@@ -90,7 +110,7 @@ module _ (k : ℕ) (K : k < 256) where
   unfolding cellLow
   low-line x g e = simp (e, whole-line k K, up-line, weight-line)
 
-  pub high-line : (x : Float) (g : ℕ) → productOf x g ≡ line k → cellHigh x g ≡ record { x = k; «x_n» = nextOf (line k) g; w = plusZero }
+  pub high-line : (x : Float) (g : ℕ) → productOf x g ≡ line k → cellHigh x g ≡ record { x = k; «x_n» = nextOf k g; w = plusZero }
   unfolding cellHigh
   high-line x g e = simp (e, whole-line k K, weight-line)
 
@@ -148,4 +168,4 @@ pub low-one : (x : Float) → cellLow x 1 ≡ record { x = 0; «x_n» = 0; w = p
 low-one x = low-line 0 (lit< tt) x 1 (one-line x)
 
 pub high-one : (x : Float) → cellHigh x 1 ≡ record { x = 0; «x_n» = 0; w = plusZero }
-high-one x = high-line 0 (lit< tt) x 1 (one-line x) ∙ ap (λ (k : ℕ). record { x = 0; «x_n» = k; w = plusZero }) (le-zero (next-le (line 0) (below-value (line 0) 255 0 1 (line-is 0 (lit< tt)) (lit< tt)) 1 (lit< tt)))
+high-one x = high-line 0 (lit< tt) x 1 (one-line x) ∙ ap (λ (k : ℕ). record { x = 0; «x_n» = k; w = plusZero }) (le-zero (next-le 0 1))

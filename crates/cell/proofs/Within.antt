@@ -1,23 +1,24 @@
--- The product p of a clipped input and g - 1 lies from +0 up to g - 1, and what follows for its whole part, p rounded up, p + 1 cut to g - 1, and the weight.
+-- The product p of a clipped input and g - 1 lies from +0 up to g - 1, and what follows for its whole part, p rounded up, the next node, and the weight.
 -- Assumes nothing.
 use mathlib.Core.Path.{_≡_, refl, sym, _∙_, subst}
-use Prim.Native.Nat.{ℕ, suc, _+_, _-_, _*_, _/_, _%_, _^_, _≤_, _<_}
-use native.Mathlib.Nat.{le-refl, le-trans, le-of-eq, le-of-lt, le-of-suc-le-suc, lt-of-lt-of-le, zero-lt-suc, le-add-right, mul-one, one-mul, mul-le-mul-right, lt-of-mul-lt-mul-right, div-mul-le-self, le-div-iff-mul-le, mod-lt, mul-pos}
+use Prim.Native.Nat.{ℕ, suc, _+_, _-_, _*_, _/_, _%_, _^_, _≤_, _<_, min}
+use native.Mathlib.Nat.{le-refl, le-trans, le-of-eq, le-of-lt, le-of-suc-le-suc, lt-of-lt-of-le, zero-lt-suc, le-add-right, mul-one, one-mul, mul-le-mul-right, lt-of-mul-lt-mul-right, mod-lt, mul-pos, div-add-mod'}
 use native.Mathlib.Omega.{arith}
 use mathlib.Core.Bool.{Bool, true, false, not, cond}
-use borrow.Author.Tests.{ltb-true}
+use mathlib.Core.Logic.{_⊎_, inl, inr}
+use borrow.Author.Tests.{ltb-true, ltb-false}
 use lib.Dec.{T, le→leb, ltb, nltb→le, lit≤}
 use lib.IntN.{pos}
-use lib.Ieee.{Float, nan, inf, fin, binary32, prec, up, down, add, round, lt, inFloat, fits}
+use lib.Ieee.{Float, nan, inf, fin, binary32, prec, up, down, lt, inFloat, fits}
 use lib.Ieee.Back.{unsigned-back}
-use lib.Ieee.Fits.{mul-fits}
+use lib.Ieee.Fits.{mul-fits, sub-fits}
 use lib.Ieee.Exact.{HasValue}
 use lib.Ieee.Positive.{num, den, den-pos}
 use Rattle.binary32.specs.Range.{UpTo, Below}
 use Rattle.binary32.specs.Numbers.{plusZero, one}
-use Rattle.cell.specs.Rule.{line, scaleOf, clipOf, productOf, wholeOf, upOf, weightOf, smallerOf, nextOf}
-use Rattle.binary32.proofs.Values.{lt-is, mul-values, add-values, line-value}
-use Rattle.binary32.proofs.Ranges.{upTo-value, below-value, upTo-own, below-own, upTo-below, below-upTo, below-of-lt, round-clear, round-upTo, round-from}
+use Rattle.cell.specs.Rule.{line, scaleOf, clipOf, productOf, wholeOf, upOf, weightOf, nextOf}
+use Rattle.binary32.proofs.Values.{lt-is, mul-values, line-value, zero-value}
+use Rattle.binary32.proofs.Ranges.{below-value, upTo-own, upTo-below, round-upTo}
 use Rattle.binary32.proofs.Whole.{whole-is, whole-lt, rest-exact}
 
 -- ---- the product
@@ -73,30 +74,18 @@ pub castable : (p : Float) (k : ℕ) → Below 255 p → k ≡ wholeOf p → T (
 unfolding inFloat
 castable p k h e = le→leb k (2 ^ prec binary32) (small k (omega (arith, whole-lt 64 255 p (lit≤ tt) h)))
 
--- ---- a rounded fraction, and line n where the fraction does not stay below it
-module _ (n a b : ℕ) (N : n < 255) (B : 0 < b) where
-  n-value : HasValue (line n) false n 1
-  n-value = line-is n (omega arith)
+-- ---- p rounded up is its whole part or one more
+pub whole-le-up : (p : Float) → wholeOf p ≤ upOf p
+unfolding upOf
+whole-le-up p = le-add-right _ _
 
-  z-below : T (lt (round binary32 false a b) (line n)) → Below n (round binary32 false a b)
-  z-below t = below-of-lt (round binary32 false a b) (line n) n (round-clear binary32 a b) n-value t
-
-  smaller-upTo : UpTo n (smallerOf (round binary32 false a b) (line n))
-  smaller-upTo = go (lt (round binary32 false a b) (line n)) z-below
-    where
-      go : (t : Bool) → (T t → Below n (round binary32 false a b)) → UpTo n (cond t (round binary32 false a b) (line n))
-      go true h = below-upTo n (round binary32 false a b) (h tt)
-      go false h = upTo-value (line n) n n 1 (zero-lt-suc 0) n-value (le-of-eq (sym (mul-one n)))
-
-  smaller-from : (k : ℕ) → k ≤ n → k * b ≤ a → k ≤ wholeOf (smallerOf (round binary32 false a b) (line n))
-  smaller-from k K h = go (lt (round binary32 false a b) (line n)) z-below
-    where
-      go : (t : Bool) → (T t → Below n (round binary32 false a b)) → k ≤ wholeOf (cond t (round binary32 false a b) (line n))
-      go true r =
-          let z = round binary32 false a b in
-          le-trans (le-div-iff-mul-le (den-pos z) .1 (round-from binary32 a b k n B (le-trans K (small n (omega arith))) h (r tt)))
-          (le-of-eq (sym (whole-is 64 n z (le-trans (le-of-lt N) (lit≤ tt)) (r tt))))
-      go false r = le-trans K (le-of-eq (sym (whole-line n (omega arith))))
+pub up-le-next : (p : Float) → upOf p ≤ wholeOf p + 1
+unfolding upOf
+up-le-next p = go (lt (line (wholeOf p)) p)
+  where
+    go : (b : Bool) → wholeOf p + cond b 1 0 ≤ wholeOf p + 1
+    go true = omega arith
+    go false = omega arith
 
 -- ---- what is made of a p from +0 up to n
 module _ (n : ℕ) (p : Float) (N : n < 255) (U : UpTo n p) where
@@ -112,14 +101,13 @@ module _ (n : ℕ) (p : Float) (N : n < 255) (U : UpTo n p) where
   whole-value : HasValue (line (wholeOf p)) false (wholeOf p) 1
   whole-value = line-is (wholeOf p) (omega (arith, whole-le))
 
-  -- the whole part is below p only where it is below n
+  -- is p above its whole part? As a comparison of whole numbers
+  compared : lt (line (wholeOf p)) p ≡ ltb (wholeOf p * den p) (num p * 1)
+  compared = lt-is (line (wholeOf p)) p (wholeOf p) 1 (num p) (den p) (zero-lt-suc 0) (den-pos p) whole-value (upTo-own n p U .0)
+
+  -- then the whole part is below n
   room : lt (line (wholeOf p)) p ≡ true → wholeOf p < n
-  room t =
-      let a = num p in
-      let c = den p in
-      let k = wholeOf p in
-      let u = upTo-own n p U in
-      lt-of-mul-lt-mul-right c (lt-of-lt-of-le (ltb-true (k * c) (a * 1) (sym (lt-is (line k) p k 1 a c (zero-lt-suc 0) (den-pos p) whole-value (u .0)) ∙ t)) (le-trans (le-of-eq (mul-one a)) (u .1)))
+  room t = lt-of-mul-lt-mul-right (den p) (lt-of-lt-of-le (ltb-true (wholeOf p * den p) (num p * 1) (sym compared ∙ t)) (le-trans (le-of-eq (mul-one (num p))) (upTo-own n p U .1)))
 
   pub up-le : upOf p ≤ n
   unfolding upOf
@@ -129,37 +117,47 @@ module _ (n : ℕ) (p : Float) (N : n < 255) (U : UpTo n p) where
       go true h = omega (arith, h refl)
       go false h = omega (arith, whole-le)
 
-  pub whole-le-up : wholeOf p ≤ upOf p
-  unfolding upOf
-  whole-le-up = le-add-right _ _
-
   -- p minus its whole part is not rounded, so it stays below 1
   pub weight-value : T (fits binary32 p) → HasValue (weightOf p) false (num p % den p) (den p)
   unfolding weightOf
   weight-value F = rw whole-div (rest-exact binary32 255 p F (lit≤ tt) in-grid)
 
+  -- otherwise nothing is left
+  nothing-over : lt (line (wholeOf p)) p ≡ false → num p % den p ≡ 0
+  nothing-over t =
+      let a = num p in
+      let c = den p in
+      let h : a * 1 ≤ wholeOf p * c = ltb-false (wholeOf p * c) (a * 1) (sym compared ∙ t) in
+      let split : a / c * c + a % c ≡ a = div-add-mod' a c in
+      let whole : a * 1 ≤ a / c * c = rw whole-div at h in
+      omega arith
+
+  weight-zero : T (fits binary32 p) → lt (line (wholeOf p)) p ≡ false → weightOf p ≡ plusZero
+  unfolding weightOf
+  weight-zero F t = zero-value binary32 (weightOf p) (den p) (den-pos p) (sub-fits binary32 p (line (wholeOf p))) (rw (nothing-over t) at (weight-value F))
+
+  -- p rounded up is the node after its whole part, or the weight is +0
+  pub up-or-none : T (fits binary32 p) → (g : ℕ) → g - 1 ≡ n → (nextOf (wholeOf p) g ≡ upOf p) ⊎ (weightOf p ≡ plusZero)
+  unfolding nextOf upOf
+  up-or-none F g e = go (lt (line (wholeOf p)) p) room (weight-zero F)
+    where
+      go : (b : Bool) → (b ≡ true → wholeOf p < n) → (b ≡ false → weightOf p ≡ plusZero) → (min (wholeOf p + 1) (g - 1) ≡ wholeOf p + cond b 1 0) ⊎ (weightOf p ≡ plusZero)
+      go true h z = inl (omega (arith, h refl))
+      go false h z = inr (z refl)
+
   pub weight-below : T (fits binary32 p) → Below 1 (weightOf p)
   weight-below F = below-value (weightOf p) 1 (num p % den p) (den p) (weight-value F) (lt-of-lt-of-le (mod-lt (num p) (den-pos p)) (le-of-eq (sym (one-mul (den p)))))
 
--- ---- the smaller of p + 1, rounded, and line n
-module _ (p : Float) (H : Below 255 p) where
-  above-is : add binary32 p one ≡ round binary32 false (num p * 1 + 1 * den p) (den p * 1)
-  above-is = add-values binary32 p one (num p) (den p) 1 1 (den-pos p) (zero-lt-suc 0) (below-own 255 p H .0) (refl, refl)
-
-  above-pos : 0 < den p * 1
-  above-pos = mul-pos (den-pos p) (zero-lt-suc 0)
-
-  pub capped-upTo : (n : ℕ) → n < 255 → UpTo n (smallerOf (add binary32 p one) (line n))
-  capped-upTo n N = rw above-is (smaller-upTo n (num p * 1 + 1 * den p) (den p * 1) N above-pos)
-
-  pub next-le : (g : ℕ) → g < 256 → nextOf p g ≤ g - 1
+-- ---- the next node
+module _ (lower g : ℕ) where
+  pub next-le : nextOf lower g ≤ g - 1
   unfolding nextOf
-  next-le g G = whole-le (g - 1) (smallerOf (add binary32 p one) (scaleOf g)) (last g G) (capped-upTo (g - 1) (last g G))
+  next-le = omega arith
 
-  pub whole-le-next : (g : ℕ) → g < 256 → wholeOf p ≤ g - 1 → wholeOf p ≤ nextOf p g
+  pub le-next : lower ≤ g - 1 → lower ≤ nextOf lower g
   unfolding nextOf
-  whole-le-next g G K =
-      let h : num p / den p * den p ≤ num p = div-mul-le-self (num p) (den p) in
-      rw above-is
-      (smaller-from (g - 1) (num p * 1 + 1 * den p) (den p * 1) (last g G) above-pos (wholeOf p) K
-      (rw (whole-is 64 255 p (lit≤ tt) H) (simp mul-one (le-trans h (le-add-right _ _)))))
+  le-next h = omega arith
+
+  pub next-le-next : nextOf lower g ≤ lower + 1
+  unfolding nextOf
+  next-le-next = omega arith

@@ -1,7 +1,7 @@
 -- Document 01, "Finding the cell": what a cell of one ink is. Definitions only.
-use Prim.Native.Nat.{ℕ, _+_, _-_, _≤_}
+use Prim.Native.Nat.{ℕ, _+_, _-_, _≤_, min}
 use mathlib.Core.Bool.{Bool, true, false, cond}
-use lib.Ieee.{Float, binary32, add, sub, mul, lt, toUnsigned}
+use lib.Ieee.{Float, binary32, sub, mul, lt, toUnsigned}
 use Rattle.binary32.specs.Numbers.{plusZero, one, ofWhole}
 use Rattle.binary32.specs.Range.{Below}
 use Rattle.cell.specs.declared.Cell.{Cell}
@@ -34,12 +34,9 @@ upOf p = wholeOf p + cond (lt (line (wholeOf p)) p) 1 0
 unfoldable pub weightOf : Float → Float
 weightOf p = sub binary32 p (line (wholeOf p))
 
-abbrev pub smallerOf : Float → Float → Float
-smallerOf a b = cond (lt a b) a b
-
--- the whole part of the smaller of p + 1, rounded, and g - 1
-unfoldable pub nextOf : Float → ℕ → ℕ
-nextOf p g = wholeOf (smallerOf (add binary32 p one) (scaleOf g))
+-- document 02, E4: the lower node plus one, but never past g - 1
+unfoldable pub nextOf : ℕ → ℕ → ℕ
+nextOf lower g = min (lower + 1) (g - 1)
 
 -- the cell of an ink whose product is p, with its upper node
 abbrev pub cellAt : Float → ℕ → Cell
@@ -51,16 +48,17 @@ cellLow x g = let p = productOf x g in cellAt p (upOf p)
 
 -- inks 5 and up
 unfoldable pub cellHigh : Float → ℕ → Cell
-cellHigh x g = let p = productOf x g in cellAt p (nextOf p g)
+cellHigh x g = let p = productOf x g in cellAt p (nextOf (wholeOf p) g)
 
 -- a cell's lower node (false) or its upper one (true)
 abbrev pub node : Cell → Bool → ℕ
 node c false = c .x
 node c true = c .«x_n»
 
--- what a caller may rely on: both nodes are among the lines 0 to n, in order, and the weight is from +0 up and below 1
+-- what a caller may rely on: both nodes are among the lines 0 to n, one or neighbours, and the weight is from +0 up and below 1
 pub record OnGrid (n : ℕ) (c : Cell) : Type 0 where
   pub lower : c .x ≤ n
   pub upper : c .«x_n» ≤ n
   pub ordered : c .x ≤ c .«x_n»
+  pub neighbours : c .«x_n» ≤ c .x + 1
   pub weight : Below 1 (c .w)

@@ -1,7 +1,8 @@
 // Finding the cell of one ink: which two grid lines an input lies between, and how far along.
 ghost use mathlib.Core.Path.{_≡_};
+ghost use Prim.Native.Nat.{_-_};
 ghost use Rattle.binary32.specs.Range.{Below};
-ghost use Rattle.cell.specs.Rule.{clipOf, wholeOf, upOf, nextOf, scaleOf, smallerOf, productOf, cellAt, cellLow, cellHigh};
+ghost use Rattle.cell.specs.Rule.{clipOf, wholeOf, upOf, nextOf, productOf, cellAt, cellLow, cellHigh};
 
 // One axis of a cell: the lower node, the upper node, and the weight of the upper one.
 pub struct Cell {
@@ -49,14 +50,14 @@ fn round_up(p: f32, lower: usize) -> usize
     lower
 }
 
-// g - 1 as a float, the last grid line. (No grid has size 0; one that had would count as size 1.)
-fn scale(g: u8) -> f32
-    ensures { λ r. ⌜ r ≡ scaleOf g ⌝ }
+// g - 1, the last grid line. (No grid has size 0; one that had would count as size 1.)
+fn last_line(g: u8) -> u8
+    ensures { λ r. ⌜ r ≡ g - 1 ⌝ }
 {
     if g == 0 {
-        return 0.0;
+        return 0;
     }
-    (g - 1) as f32
+    g - 1
 }
 
 // The product that decides the cell: the clipped input times g - 1, rounded. It is below 255.
@@ -64,7 +65,7 @@ fn product(x: f32, g: u8) -> f32
     ensures { λ r. ⌜ r ≡ productOf x g ⌝ }
     ensures ranged { λ r. ⌜ Below 255 r ⌝ }
 {
-    clip(x) * scale(g)
+    clip(x) * (last_line(g) as f32)
 }
 
 // The cell of a product whose nodes are known.
@@ -88,23 +89,15 @@ pub fn cell_low(x: f32, g: u8) -> Cell
     cell_at(p, lower, round_up(p, lower))
 }
 
-// The smaller of two floats, the second where neither is below the other.
-fn smaller(a: f32, b: f32) -> f32
-    ensures { λ r. ⌜ r ≡ smallerOf a b ⌝ }
+// The upper node of an ink from 5 up: the one after the lower node, but never past the last line.
+fn next_node(lower: usize, g: u8) -> usize
+    ensures { λ r. ⌜ r ≡ nextOf lower g ⌝ }
 {
-    if a < b {
-        return a;
+    let last = last_line(g) as usize;
+    if lower >= last {
+        return last;
     }
-    b
-}
-
-// The upper node of an ink from 5 up: the whole part of the product plus 1, rounded, and never past
-// the last line.
-fn next_node(p: f32, g: u8) -> usize
-    requires { ⌜ Below 255 p ⌝ }
-    ensures { λ r. ⌜ r ≡ nextOf p g ⌝ }
-{
-    whole_part(smaller(p + 1.0, scale(g)))
+    lower + 1
 }
 
 // The cell of an ink from 5 up: the upper node is the next one.
@@ -112,5 +105,6 @@ pub fn cell_high(x: f32, g: u8) -> Cell
     ensures { λ r. ⌜ r ≡ cellHigh x g ⌝ }
 {
     let p = product(x, g);
-    cell_at(p, whole_part(p), next_node(p, g))
+    let lower = whole_part(p);
+    cell_at(p, lower, next_node(lower, g))
 }

@@ -13,8 +13,8 @@ use Rattle.weights.specs.Rule.{scaleOf, cellOf, weightCell, rangedCell}
 use Rattle.cubes.specs.Cube.{onGrid}
 use Rattle.cubes.specs.Cube as Cube
 use Rattle.checked.specs.Cases as Cases
-use Rattle.checked.specs.Cases.{all, bits, totalOf, stridesOf, lookOf, between, cubeOf, answers, sameNumbers, right, over, corner, cases}
+use Rattle.checked.specs.Cases.{all, bits, totalOf, stridesOf, lookOf, between, cubeOf, answers, sameNumbers, right, over, corner, lastAt, justUnder, cases}
 
 pub checked : every right cases ≡ true
-unfolding ofBits toBits ofInt toUnsigned add sub mul div lt le tabulate every product clipOf productOf upOf weightOf nextOf cellLow cellHigh index isCount recordOf refusedBy laidUsing laidOf lookup inkCell cells answerAt refusal scaleOf cellOf weightCell rangedCell onGrid Cube.answerAt Cube.refusal all bits totalOf stridesOf lookOf between cubeOf Cases.weightOf answers sameNumbers right over corner cases
+unfolding ofBits toBits ofInt toUnsigned add sub mul div lt le tabulate every product clipOf productOf upOf weightOf nextOf cellLow cellHigh index isCount recordOf refusedBy laidUsing laidOf lookup inkCell cells answerAt refusal scaleOf cellOf weightCell rangedCell onGrid Cube.answerAt Cube.refusal all bits totalOf stridesOf lookOf between cubeOf Cases.weightOf answers sameNumbers right over corner lastAt justUnder cases
 checked = refl

@@ -1,5 +1,5 @@
--- Document 01's checked numbers, the cases marked P: what is asked, what the definitions answer, and the table of both. Definitions only.
-use Prim.Native.Nat.{ℕ, _*_}
+-- Document 01's checked numbers, the cases marked P, and case 12 as document 02, E4, has it: what is asked, what the definitions answer, and the table of both. Definitions only.
+use Prim.Native.Nat.{ℕ, _-_, _*_}
 use mathlib.Core.Bool.{Bool, true, false, _&&_}
 use mathlib.Core.List.{List, [], _∷_, _++_}
 use lib.Dec.{eqb}
@@ -82,6 +82,14 @@ over a b = div binary32 (ofWhole a) (ofWhole b)
 unfoldable pub corner : ℕ → List Float
 corner m = replicate (7 * m) (ofWhole 0) ++ replicate m (ofWhole 1)
 
+-- zeros, but a one at line k of the last of five inks and line 0 of the others, in a grid of three lines
+unfoldable pub lastAt : ℕ → List Float
+lastAt k = replicate k (ofWhole 0) ++ (ofWhole 1 ∷ replicate (242 - k) (ofWhole 0))
+
+-- its inputs: ink 5 just under 1 / 2, so that its product is just under 1; the others 0
+unfoldable pub justUnder : List Float
+justUnder = replicate 4 (ofWhole 0) ++ (over 16777215 33554432 ∷ [])
+
 unfoldable pub cases : List Case
 cases =
     -- P1
@@ -117,4 +125,7 @@ cases =
     ∷ record { asked = weight 33 128; told = 0 ∷ 16 ∷ 17 ∷ bits (over 32897 524288) ∷ [] }
     ∷ record { asked = weight 33 255; told = 0 ∷ 32 ∷ 32 ∷ bits (ofWhole 0) ∷ [] }
     ∷ record { asked = weight 1 200; told = 0 ∷ 0 ∷ 0 ∷ bits (ofWhole 0) ∷ [] }
+    -- 12: ink 5 is not blended with the node two steps off, but with the next one
+    ∷ record { asked = look 3 5 1 (lastAt 2) justUnder; told = 0 ∷ bits (ofWhole 0) ∷ [] }
+    ∷ record { asked = look 3 5 1 (lastAt 1) justUnder; told = 0 ∷ 0x3f7f_ffff ∷ [] }
     ∷ []

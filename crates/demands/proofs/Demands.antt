@@ -4,7 +4,6 @@
 use Prim.Native.Nat.{ℕ, _+_, _-_, _*_, _≤_, _<_}
 use mathlib.Core.Path.{_≡_, sym, ap, _∙_, subst}
 use mathlib.Core.List.{List, reverse}
-use mathlib.Core.Logic.{⊎-elim}
 use native.Mathlib.Omega.{arith}
 use lib.Ieee.{Float, nan}
 use lib.ListN.{length, getD, getD-replicate}
@@ -16,13 +15,14 @@ use Rattle.layout.specs.Layout.{IsLayout, inkSizes, entries, fewer}
 use Rattle.layout.proofs.Order.{entries-within}
 use Rattle.layout.proofs.Laws.{inks-to, size-from, size-to, ink-count, fewer-inks, fewer-outputs, fewer-is-layout}
 use Rattle.lookup.specs.Lookup.{Grid, lookup}
-use Rattle.lookup.specs.Table.{output, cells, answerAt}
+use Rattle.lookup.specs.Table.{output, answerAt}
 use Rattle.slab.specs.Slab.{insert, without, SlabCut}
 use Rattle.demands.specs.Demand.{Cuttable, Shares, OnLine, AtANode, OnALine}
 use Rattle.demands.proofs.Each.{All, all-replicate, each-map}
 use Rattle.demands.proofs.Lookups.{lookup-agrees}
 use Rattle.slab.proofs.Without.{length-without}
-use Rattle.demands.proofs.InkCells.{Sized, KeepRule, OnLines, on-lines, cells-within, same-rule}
+use Rattle.demands.proofs.InkCells.{Sized, OnLines, low, low-sound, lows, on-lines, cells-within}
+use Rattle.demands.proofs.Rules.{Shared, rules-same}
 use Rattle.demands.proofs.Cuts.{line-in, node-in, node-answer, cut-answer}
 use Rattle.slab.proofs.Slabs.{others-are, slab-entry, slab-all}
 use Rattle.slab.proofs.Cutting.{slab-cut-length, passed-done, cut-passed, cut-entry}
@@ -30,13 +30,13 @@ use Rattle.slab.proofs.Cutting.{slab-cut-length, passed-done, cut-passed, cut-e
 sizes-are : (lut : MultidimensionalLut) → IsLayout lut → All Sized (inkSizes lut)
 sizes-are lut is = all-replicate Sized (lut .«input_inks») (lut .«grid_size») (size-from lut is, omega (arith, size-to lut is))
 
+few : (lut : MultidimensionalLut) → IsLayout lut → length (inkSizes lut) ≤ 1000
+few lut is = omega (arith, ink-count lut is, inks-to lut is)
+
+shared : (lut : MultidimensionalLut) → IsLayout lut → (table : List Float) → Shares table (entries lut) → (o : ℕ) → o < lut .«output_inks» → Shared (inkSizes lut) (output lut table o)
+shared lut is table shares o h ks w = shares _ (omega (arith, entries-within (inkSizes lut) ks (lut .«output_inks») w))
+
 module _ (lut : MultidimensionalLut) (is : IsLayout lut) (table : List Float) (shares : Shares table (entries lut)) (xs : List Float) where
-  few : length (inkSizes lut) ≤ 1000
-  few = omega (arith, ink-count lut is, inks-to lut is)
-
-  entry-share : (o : ℕ) → o < lut .«output_inks» → (ks : List ℕ) → Within (inkSizes lut) ks → Share (output lut table o ks)
-  entry-share o h ks w = shares _ (omega (arith, entries-within (inkSizes lut) ks (lut .«output_inks») w))
-
   -- ---- all inks on grid lines, listed first ink first
 
   module _ (lines : List ℕ) (len : length lines ≡ lut .«input_inks»)
@@ -53,28 +53,24 @@ module _ (lut : MultidimensionalLut) (is : IsLayout lut) (table : List Float) (s
     -- the node's entries stand in the table
     pub node-entry : (o : ℕ) → o < lut .«output_inks» → index (inkSizes lut) (reverse lines) * lut .«output_inks» + o < entries lut
     node-entry o h =
-        let node = node-in (inkSizes lut) (sizes-are lut is) few (output lut table o) (entry-share o h) xs lines stand as-many in
+        let node = node-in (inkSizes lut) (sizes-are lut is) (few lut is) (output lut table o) (shared lut is table shares o h) xs lines stand as-many in
         omega (arith, entries-within (inkSizes lut) (reverse lines) (lut .«output_inks») node)
 
     node-same : (o : ℕ) → o < lut .«output_inks» → Same (answerAt lut table xs o) (output lut table o (reverse lines))
     unfolding answerAt
-    node-same o h = node-answer (inkSizes lut) (sizes-are lut is) few (output lut table o) (entry-share o h) xs lines stand as-many
+    node-same o h = node-answer (inkSizes lut) (sizes-are lut is) (few lut is) (output lut table o) (shared lut is table shares o h) xs lines stand as-many
 
   -- ---- ink j, counted from 1, on grid line k
 
   module _ (j k : ℕ) (may : Cuttable j (lut .«input_inks»)) (on : OnLine lut (getD xs (j - 1) nan) k) where
     from : 4 ≤ j
-    from = ⊎-elim (λ h. omega arith) (λ h. omega arith) may
+    from = may .0
 
     to : j ≤ lut .«input_inks»
-    to = ⊎-elim (λ h. omega arith) (λ h. omega arith) may
+    to = may .1
 
     in-grid : k < lut .«grid_size»
     in-grid = line-in (lut .«grid_size») (getD xs (j - 1) nan) k (size-from lut is, omega (arith, size-to lut is)) on
-
-    -- the inks above ink j take one rule, before and after the cut
-    rule : KeepRule (j - 1) (length (inkSizes lut))
-    rule l lo hi g x = let count = ink-count lut is in ⊎-elim (λ h. same-rule l g x (omega arith)) (λ h. absurd (omega arith)) may
 
     two : 2 ≤ lut .«input_inks»
     two = omega (arith, from, to)
@@ -117,10 +113,13 @@ module _ (lut : MultidimensionalLut) (is : IsLayout lut) (table : List Float) (s
           let size = getD-replicate (lut .«input_inks») p (lut .«grid_size») 0 (omega (arith, from, to)) in
           let f : Grid = λ ks. output lut table o (insert p k ks) in
           let others = inkSizes (fewer lut) in
-          cut-answer (inkSizes lut) (sizes-are lut is) few (output lut table o) (entry-share o h) xs p (j - 1) k (omega (arith, from, to, ink-count lut is)) (omega (arith, from)) rule (rw size on)
-          ∙ ap (λ (gs : List ℕ). plain (lookup f (cells gs ys))) (others-are lut is two j one to)
-          ∙ ap plain (lookup-agrees f (output (fewer lut) smaller o) (cells others ys)
-          (each-map (Within others) _ (cells others ys) (smaller-entry o h) (cells-within others ys (sizes-are (fewer lut) smaller-layout))))
+          let g : Grid = output (fewer lut) smaller o in
+          let laid = smaller-layout in
+          let fits : o < fewer lut .«output_inks» = omega (arith, fewer-outputs lut is two) in
+          cut-answer (inkSizes lut) (sizes-are lut is) (few lut is) (output lut table o) (shared lut is table shares o h) xs p (j - 1) k (omega (arith, from, to, ink-count lut is)) (omega (arith, from)) (rw size on)
+          ∙ ap (λ (gs : List ℕ). plain (lookup f (lows gs ys))) (others-are lut is two j one to)
+          ∙ ap plain (lookup-agrees f g (lows others ys) (each-map (Within others) _ (lows others ys) (smaller-entry o h) (cells-within low low-sound others ys (sizes-are (fewer lut) laid))))
+          ∙ sym (rules-same others (sizes-are (fewer lut) laid) (few (fewer lut) laid) g (shared (fewer lut) laid smaller smaller-shares o fits) ys)
 
 -- ---- demand 3
 

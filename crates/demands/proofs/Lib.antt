@@ -1,10 +1,11 @@
 -- Demand 3 (`Demands`) from the bottom up. `Each`: what holds at each node of the cells. `Lookups`, `Lines`: a lookup over cells and a grid function.
--- `InkCells`: the cells of the inputs. `Cuts`: demand 3 for any sizes. `Calls`: demand 3 by what the calls leave. `Fixed`: no fixed colour meets it. `Read`: demand 3
+-- `InkCells`: the cells of the inputs. `Rules`: one rule serves every ink. `Cuts`: demand 3 for any sizes. `Calls`: demand 3 by what the calls leave. `Fixed`: no fixed colour meets it. `Read`: demand 3
 -- in a table that was read from a CLUT element.
 pub mod Each
 pub mod Lookups
 pub mod Lines
 pub mod InkCells
+pub mod Rules
 pub mod Cuts
 pub mod Demands
 pub mod Calls

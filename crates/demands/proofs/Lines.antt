@@ -1,7 +1,7 @@
 -- Demand 3 over cells and a grid function, for entries and weights from 0 to 1, with zeros of both signs counting as equal. On a grid line an ink's weight is 0.
 -- An ink from the fourth on that stands on a line can be cut out; where all do, the answer is the entry at the node.
 -- Assumes nothing.
-use mathlib.Core.Path.{_≡_, refl, sym, ap, _∙_}
+use mathlib.Core.Path.{refl, sym, ap, _∙_}
 use Prim.Native.Nat.{ℕ, zero, suc, _+_, _≤_}
 use native.Mathlib.Omega.{arith}
 use mathlib.Core.Bool.{Bool, true, false}
@@ -10,7 +10,7 @@ use lib.Dec.{lit≤}
 use lib.ListN.{length, getD}
 use lib.Ieee.{Float, le}
 use Rattle.binary32.specs.Numbers.{plusZero}
-use Rattle.binary32.specs.Blend.{mlaf, lerp, along, square, rise, terms, tetra}
+use Rattle.binary32.specs.Blend.{mlaf, along, square, rise, terms, tetra}
 use Rattle.binary32.specs.Same.{plain, Same}
 use Rattle.binary32.proofs.Units.{U-is, E-pos, Number}
 use Rattle.binary32.proofs.Near.{sub-near}
@@ -22,7 +22,7 @@ use Rattle.cell.specs.declared.Cell.{Cell}
 use Rattle.lookup.specs.Lookup.{Grid, node, part, lookup}
 use Rattle.slab.specs.Slab.{insert, without}
 use Rattle.demands.proofs.Each.{either-way, Each, Weights, lowers}
-use Rattle.demands.proofs.Lookups.{lookup-held}
+use Rattle.demands.proofs.Lookups.{lookup-held, lookup-step}
 use Rattle.slab.proofs.Without.{length-without}
 
 abbrev pub Zero : Float → Type 0
@@ -79,13 +79,6 @@ lookup-node f (h ∷ e ∷ d ∷ c ∷ cs) n F W Z =
     ∙ lookup-node (part f (h .x)) (e ∷ d ∷ c ∷ cs) (omega arith) (F false) (W .1) (Z .1)
 
 -- ---- one ink from the fourth on stands on a grid line: the lookup with one ink fewer, in the slab at that line
-
-lookup-step : (f : Grid) (h : Cell) (cs : List Cell) → 3 ≤ length cs → lookup f (h ∷ cs) ≡ lerp (lookup (part f (h .x)) cs) (lookup (part f (h .«x_n»)) cs) (h .w)
-unfolding lookup
-lookup-step f h [] n = absurd (omega arith)
-lookup-step f h (c ∷ []) n = absurd (omega arith)
-lookup-step f h (d ∷ c ∷ []) n = absurd (omega arith)
-lookup-step f h (e ∷ d ∷ c ∷ cs) n = refl
 
 -- the cell at place p is cut out: at least three cells come after it
 pub lookup-cut : (f : Grid) (cs : List Cell) (p : ℕ) (none : Cell) → p + 4 ≤ length cs → length cs ≤ 1000

@@ -1,21 +1,27 @@
 -- A lookup sees the entries at the nodes of its cells alone, and stays near 0 to 1 where these and the weights are from 0 to 1: for any count of inks.
 -- Assumes nothing.
 use Prim.Native.Nat.{_+_, _*_, _≤_}
-use mathlib.Core.Path.{_≡_}
+use mathlib.Core.Path.{_≡_, refl}
 use native.Mathlib.Omega.{arith}
 use mathlib.Core.Bool.{true, false}
 use mathlib.Core.List.{List, [], _∷_}
 use lib.Dec.{lit≤}
 use lib.ListN.{length}
-use lib.Ieee.{Float}
 use Rattle.binary32.specs.Blend.{lerp, along, square, tetra}
-use Rattle.binary32.specs.Range.{Share}
-use Rattle.binary32.proofs.Held.{Held, held-more, within→held}
+use Rattle.binary32.proofs.Held.{Held, held-more}
 use Rattle.binary32.proofs.Means.{lerp-held, along-held, square-held}
 use Rattle.binary32.proofs.Tetrahedron.{tetra-held}
 use Rattle.cell.specs.declared.Cell.{Cell}
 use Rattle.lookup.specs.Lookup.{Grid, node, part, lookup}
 use Rattle.demands.proofs.Each.{Each, Weights}
+
+-- four inks and more: between two lookups with one ink fewer
+pub lookup-step : (f : Grid) (h : Cell) (cs : List Cell) → 3 ≤ length cs → lookup f (h ∷ cs) ≡ lerp (lookup (part f (h .x)) cs) (lookup (part f (h .«x_n»)) cs) (h .w)
+unfolding lookup
+lookup-step f h [] n = absurd (omega arith)
+lookup-step f h (c ∷ []) n = absurd (omega arith)
+lookup-step f h (d ∷ c ∷ []) n = absurd (omega arith)
+lookup-step f h (e ∷ d ∷ c ∷ cs) n = refl
 
 -- two grids that agree at the nodes of the cells give one answer
 pub lookup-agrees : (f g : Grid) (cs : List Cell) → Each (λ ks. f ks ≡ g ks) cs → lookup f cs ≡ lookup g cs
@@ -28,10 +34,6 @@ lookup-agrees f g (h ∷ e ∷ d ∷ c ∷ cs) F =
     let low = lookup-agrees (part f (h .x)) (part g (h .x)) (e ∷ d ∷ c ∷ cs) (F false) in
     let high = lookup-agrees (part f (h .«x_n»)) (part g (h .«x_n»)) (e ∷ d ∷ c ∷ cs) (F true) in
     λ t. lerp (low t) (high t) (h .w)
-
--- a value from 0 to 1 is held with no slack
-pub share-held : (x : Float) → Share x → Held 0 x
-share-held x s = within→held 0 x (s .is-fit) (s .within)
 
 -- by the count of inks: 10 for the first three at most, and 4 for each ink above
 pub lookup-held : (f : Grid) (cs : List Cell) → length cs ≤ 1000 → Each (λ ks. Held 0 (f ks)) cs → Weights (Held 0) cs → Held (10 + 4 * length cs) (lookup f cs)

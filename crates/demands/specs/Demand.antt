@@ -2,7 +2,6 @@
 -- rule that gives the answer of a layout, a table and inputs at an output. Definitions only.
 use Prim.Native.Nat.{ℕ, _-_, _≤_, _<_}
 use mathlib.Core.Path.{_≡_}
-use mathlib.Core.Logic.{_⊎_}
 use mathlib.Core.List.{List, reverse}
 use lib.Ieee.{Float, nan}
 use lib.ListN.{length, getD}
@@ -14,9 +13,9 @@ use Rattle.layout.specs.Layout.{IsLayout, entries, fewer}
 use Rattle.lookup.specs.Table.{output}
 use Rattle.slab.specs.Slab.{without, SlabCut}
 
--- the inks j of n that demand 3 speaks of: the fifth and those above it, and the fourth of exactly four
+-- the inks j of n that demand 3 speaks of: the fourth and those above it
 abbrev pub Cuttable : ℕ → ℕ → Type 0
-Cuttable j n = ((5 ≤ j) × (j ≤ n)) ⊎ ((j ≡ 4) × (n ≡ 4))
+Cuttable j n = (4 ≤ j) × (j ≤ n)
 
 -- the first n entries of a table are from 0 to 1
 abbrev pub Shares : List Float → ℕ → Type 0

@@ -83,23 +83,25 @@ fn refused_cuts_write_nothing() {
     }
 }
 
-/// The fourth of four inks and the fifth of five stand on a line: they can be left out.
+/// An ink from the fourth on stands on a line: it can be left out, ink 5 just under a line or not.
 #[test]
 fn a_lookup_in_the_slab_is_the_lookup_with_the_ink_on_its_line() {
-    for (n, line) in [(4, 0), (4, 1), (4, 2), (5, 1)] {
+    for (n, j, line) in [(4, 4, 0), (4, 4, 1), (4, 4, 2), (5, 5, 1), (5, 4, 1)] {
         let grid = Grid::new(3, n, 1);
         let table: Vec<f32> = counted(grid.total().unwrap())
             .iter()
             .map(|e| e * 37.0 % 64.0 / 64.0)
             .collect();
-        let mut inputs = vec![0.3, 0.8, 0.55, 0.1, 0.0];
+        let mut inputs = vec![0.3, 0.8, 0.55, 0.1, f32::from_bits(0x3EFF_FFFF)];
         inputs.truncate(n);
-        inputs[n - 1] = line as f32 / 2.0;
+        inputs[j - 1] = line as f32 / 2.0;
+        let mut others = inputs.clone();
+        others.remove(j - 1);
         let (mut whole, mut fewer) = ([UNTOUCHED], [UNTOUCHED]);
         let mut slab = vec![UNTOUCHED; 100];
-        let smaller = cut_slab(&grid, &table, n, line, &mut slab).unwrap();
+        let smaller = cut_slab(&grid, &table, j, line, &mut slab).unwrap();
         lookup(&grid, &table, &inputs, &mut whole).unwrap();
-        lookup(&smaller, &slab, &inputs[..n - 1], &mut fewer).unwrap();
-        assert_eq!(whole, fewer, "{n} inks, line {line}");
+        lookup(&smaller, &slab, &others, &mut fewer).unwrap();
+        assert_eq!(whole, fewer, "ink {j} of {n}, line {line}");
     }
 }
