@@ -1,6 +1,8 @@
 //! Time of one lookup, the library's and the Rust text's side by side: same machine, same table, same inputs, both for
 //! release. First both must give the same bits at every input, but for those that demand 2 excepts (E4).
 //!
+//! Then the time of a lookup with a size for each ink, which the Rust text has not: its bits are held to the definition's (tests/oracle).
+//!
 //! Then the time of reading a CLUT element, beside a plain Rust loop: the crate's own reading rounds twice. Then that of cutting a slab, which the
 //! crate does not, beside a plain Rust loop too.
 //!
@@ -21,6 +23,8 @@ use std::time::Instant;
 /// small and a call's fixed cost shows.
 const GRIDS: [(usize, u8); 14] =
     [(1, 255), (2, 33), (3, 33), (4, 17), (5, 9), (6, 6), (8, 4), (10, 3), (12, 2), (15, 2), (1, 2), (2, 2), (3, 2), (4, 2)];
+/// A size for each ink, of tables as large.
+const OWN_SIZES: [&[u8]; 3] = [&[17, 17, 9, 17], &[9, 9, 9, 9, 5, 3], &[3, 3, 3, 3, 2, 2, 2, 2, 2, 2, 2, 2]];
 const POINTS: usize = 512;
 const ROUNDS: usize = 9;
 
@@ -36,6 +40,13 @@ fn main() {
             let kb = table.len() * 4 / 1024;
             println!("{n:>3} {g:>4} {m:>3} {kb:>10} {rust:>12.1} {library:>12.1} {:>14.2}", library / rust);
         }
+    }
+    println!("ns per lookup with a size for each ink, m 3; the Rust text has no such lookup");
+    println!("{:>10} {:>12}  sizes", "table KB", "library");
+    for sizes in OWN_SIZES {
+        let table: Vec<f32> = (0..sizes.iter().fold(3, |total, &size| total * size as usize)).map(|_| rng.unit()).collect();
+        let inputs: Vec<f32> = (0..POINTS * sizes.len()).map(|_| rng.unit()).collect();
+        println!("{:>10} {:>12.1}  {sizes:?}", table.len() * 4 / 1024, alone(sizes, 3, &table, &inputs));
     }
     println!("ns per entry of a CLUT element read, g 17, n 4, m 3");
     println!("{:>9} {:>12} {:>12} {:>14}", "precision", "Rust loop", "library", "library/Rust");
@@ -130,6 +141,24 @@ fn side_by_side(g: u8, n: usize, m: usize, table: &[f32], inputs: &[f32]) -> (f6
         best.1 = best.1.min(time(n, inputs, passes, &library));
     }
     best
+}
+
+/// The library's best time, in ns for one lookup. First its bits must be the definition's at every input.
+fn alone(sizes: &[u8], m: usize, table: &[f32], inputs: &[f32]) -> f64 {
+    let n = sizes.len();
+    let sixteen = std::array::from_fn(|i| sizes.get(i).copied().unwrap_or(0));
+    let library = |inputs: &[f32], answer: &mut [f32]| {
+        black_box(library::lookup(black_box(&sixteen), n, m, table, inputs, answer));
+    };
+    for point in inputs.chunks_exact(n) {
+        let mut answer = vec![0.0f32; m];
+        library(point, &mut answer);
+        let right = oracle::definition::lookup(sizes, m, table, point);
+        assert!(answer.iter().zip(&right).all(|(x, y)| x.to_bits() == y.to_bits()), "{sizes:?}: not the same bits at {point:?}");
+    }
+    let once = time(n, inputs, 1, &library);
+    let passes = (1e7 / (once * POINTS as f64)).clamp(1.0, 1e4) as usize;
+    (0..ROUNDS).map(|_| time(n, inputs, passes, &library)).fold(f64::MAX, f64::min)
 }
 
 fn time(n: usize, inputs: &[f32], passes: usize, lookup: &impl Fn(&[f32], &mut [f32])) -> f64 {

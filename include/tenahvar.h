@@ -21,34 +21,35 @@ extern "C" {
 #define TENAHVAR_INPUT_INKS 1      /* n is outside 1..15 */
 #define TENAHVAR_OUTPUT_INKS 2     /* m is outside 1..15; cube methods: m is not 3 or 4 */
 #define TENAHVAR_ZERO_SIZE 3       /* a size in use is 0 */
-#define TENAHVAR_UNEQUAL_SIZES 4   /* the sizes in use are not equal */
+/* 4 is withdrawn: it is not given, and not used again. */
 #define TENAHVAR_LARGE_TOTAL 5     /* the total is above 4,294,967,295 */
 #define TENAHVAR_SHORT_TABLE 6     /* the table is shorter than the total */
 #define TENAHVAR_INPUT_COUNT 7     /* the number of inputs, or of node coordinates, is not n */
 #define TENAHVAR_SHORT_ANSWER 8    /* a buffer to be written is too short: shorter than m, or for a CLUT or a slab than its total */
 #define TENAHVAR_FOREIGN_RECORD 9  /* a layout record is not one that an accepted layout gives: no function below takes a record */
-#define TENAHVAR_OUTSIDE_GRID 10   /* a node, of a cell or of the coordinates, is outside 0..g-1 */
+#define TENAHVAR_OUTSIDE_GRID 10   /* a cell's node is not below g, or a node coordinate not below its own ink's size */
 #define TENAHVAR_NO_SUCH_INK 11    /* the ink to cut is not one of 1..n, or n is 1 */
-#define TENAHVAR_NO_SUCH_LINE 12   /* the line to cut at is not below g */
+#define TENAHVAR_NO_SUCH_LINE 12   /* the line to cut at is not below the size of the ink to cut */
 #define TENAHVAR_SHORT_ELEMENT 13  /* a CLUT element has under 20 bytes */
 #define TENAHVAR_PRECISION 14      /* a CLUT element's precision is neither 1 nor 2 */
 #define TENAHVAR_SHORT_DATA 15     /* a CLUT element has too little data for the total */
 
-/* A layout: the first n of the sixteen sizes are in use and are one value g; there are n inks in and m out, and g^n * m entries, the total.
- * In the table the first ink varies least rapidly, the last most rapidly, and the m entries of a node stand together. */
+/* A layout: the first n of the sixteen sizes are in use, the number of grid lines of each ink; the others may be anything. There are n inks in and m out,
+ * and as many entries as the product of the n sizes times m, the total. In the table the first ink varies least rapidly, the last most rapidly, and the m
+ * entries of a node stand together. */
 
-/* Refusals 1 to 5, in that order. On 0 it writes, for ink i from 0, the nodes and the table entries from one line of the ink to its next, and g-1;
- * unused places are set to 1, 1 and +0.0. */
+/* Refusals 1, 2, 3, 5, in that order. On 0 it writes, for ink i from 0, the nodes and the table entries from one line of the ink to its next, and its size
+ * less 1; unused places are set to 1, 1 and +0.0. */
 uint32_t tenahvar_layout(const uint8_t sizes[16], size_t n, size_t m,
                          uint32_t grid_strides[16], uint32_t grid_filling_size[16], float grid_scale[16]);
 
-/* The colour at `inputs`: refusals 1 to 5, then 6, 7, 8. On 0 it sets the first m entries of `answer` and no others. */
+/* The colour at `inputs`: a layout's refusals, then 6, 7, 8. On 0 it sets the first m entries of `answer` and no others. */
 uint32_t tenahvar_lookup(const uint8_t sizes[16], size_t n, size_t m,
                          const float *table, size_t table_length,
                          const float *inputs, size_t inputs_length,
                          float *answer, size_t answer_length);
 
-/* Where a node's m entries stand in the table: refusals 1 to 5, then 6, 7, 10. On 0 the node is table[*offset] .. table[*offset + m - 1]. */
+/* Where a node's m entries stand in the table: a layout's refusals, then 6, 7, 10. On 0 the node is table[*offset] .. table[*offset + m - 1]. */
 uint32_t tenahvar_node(const uint8_t sizes[16], size_t n, size_t m,
                        const float *table, size_t table_length,
                        const size_t *coordinates, size_t coordinates_length,
@@ -56,15 +57,16 @@ uint32_t tenahvar_node(const uint8_t sizes[16], size_t n, size_t m,
 
 /* Reads the CLUT element of an ICC.1 lutAToBType: sixteen sizes, a precision byte, three bytes of padding, then the data. An entry is v / 255 of one byte
  * (precision 1) or v / 65535 of two, the first counting most (precision 2). Padding, sizes from n on and data past the total are ignored.
- * Refusals 13, then 1 to 5, then 14, 15, 8. On 0 it writes the element's sixteen sizes to `sizes` and sets the first total entries of `entries`, and no
- * others. What was read is for the functions above, with the same n and m; the element is needed no more. */
+ * Refusals 13, then a layout's, then 14, 15, 8. On 0 it writes the element's first n sizes and then zeros to `sizes`, and sets the first total entries of
+ * `entries` and no others. What was read is for the functions above, with the same n and m; the element is needed no more. */
 uint32_t tenahvar_read_clut(const uint8_t *element, size_t element_length, size_t n, size_t m,
                             uint8_t sizes[16], float *entries, size_t entries_length);
 
-/* Cuts out the table that remains when ink j, counted from 1, stands on grid line k, counted from 0: the slab, g^(n-1) * m entries. It holds, bit for bit and
- * in their old order, the entries of the nodes whose coordinate for ink j is k. Refusals 1 to 5, then 6, 11, 12, 8.
- * On 0 it sets the first entries of `slab`, as many as the slab has, and no others. The slab is a table for the functions here: for a lookup in it with the
- * other inks' inputs give the same sizes and m, and n-1 inks. */
+/* Cuts out the table that remains when ink j, counted from 1, stands on grid line k, counted from 0: the slab. It has as many entries as the product of the
+ * other sizes times m and holds, bit for bit and in their old order, the entries of the nodes whose coordinate for ink j is k.
+ * A layout's refusals, then 6, 11, 12, 8. On 0 it sets the first entries of `slab`, as many as the slab has, and no others.
+ * The slab is a table for the functions here. For a lookup in it with the other inks' inputs take size j out, so that those after it move up by one; give
+ * n-1 inks and the same m. */
 uint32_t tenahvar_cut_slab(const uint8_t sizes[16], size_t n, size_t m,
                            const float *table, size_t table_length,
                            size_t j, size_t k,

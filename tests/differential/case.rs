@@ -2,12 +2,28 @@
 
 use std::time::{Duration, Instant};
 
+/// The sorts of calls that have a size for each ink.
+#[derive(Clone, Copy)]
+pub enum Sort {
+    Layout,
+    Lookup,
+    Node,
+    Element,
+    Slab,
+}
+
+const SORTS: [&str; 5] = ["layouts", "lookups", "nodes", "elements", "slabs"];
+
 /// One call that the library and the oracle both answer.
 pub trait Case: Sized {
     /// The number that document 01 gives.
     fn number(&self) -> u32;
     /// Of a lookup that demand 2 excepts (E4), whether the crate's answers are others; none of every other call.
     fn parted(&self) -> Option<bool> {
+        None
+    }
+    /// The sort of a call whose sizes in use are unequal (E5); none of every other call.
+    fn unequal(&self) -> Option<Sort> {
         None
     }
     /// What differs, in words; nothing where both agree.
@@ -24,12 +40,14 @@ pub struct Run {
     numbers: [u64; 16],
     /// How many calls demand 2 excepts, and in how many of them the crate's answers are others.
     pub excepted: [u64; 2],
+    /// Of each sort how many calls with unequal sizes are accepted, and how many refused.
+    unequal: [[u64; 2]; 5],
     began: Instant,
 }
 
 impl Run {
     pub fn new() -> Run {
-        Run { counts: Vec::new(), numbers: [0; 16], excepted: [0; 2], began: Instant::now() }
+        Run { counts: Vec::new(), numbers: [0; 16], excepted: [0; 2], unequal: [[0; 2]; 5], began: Instant::now() }
     }
 
     /// Opens a kind of calls; what is held from here on counts to it.
@@ -57,7 +75,11 @@ impl Run {
         if let Some(count) = self.counts.last_mut() {
             count.1 += 1;
         }
-        self.numbers[case.number() as usize] += 1;
+        let number = case.number();
+        self.numbers[number as usize] += 1;
+        if let Some(sort) = case.unequal() {
+            self.unequal[sort as usize][usize::from(number != 0)] += 1;
+        }
         if let Some(parted) = case.parted() {
             self.excepted[0] += 1;
             self.excepted[1] += u64::from(parted);
@@ -87,15 +109,22 @@ impl Run {
         std::process::exit(1);
     }
 
-    /// Ends the run: how many calls gave each number, how many were excepted, and the sum.
+    /// Ends the run: how many calls gave each number, how many were excepted, how many had unequal sizes, and the sum.
     pub fn end(&mut self) {
         self.close();
         let told: Vec<String> = self.numbers.iter().enumerate().filter(|(_, &count)| count > 0).map(|(k, count)| format!("{k}: {count}")).collect();
         println!("            by number: {}", told.join(", "));
         let [excepted, parted] = self.excepted;
         println!("            {excepted} calls are excepted from demand 2 (E4) and held to the definition; in {parted} of them the Rust text answers otherwise");
+        let [accepted, refused] = [0, 1].map(|k| (0..5).map(|sort| format!("{} {}", SORTS[sort], self.unequal[sort][k])).collect::<Vec<_>>().join(", "));
+        println!("            with unequal sizes (E5), held to the definition over coordinates: {accepted}; and refused: {refused}");
         println!("{:>10}  calls compared, none different", self.counts.iter().map(|c| c.1).sum::<u64>());
     }
+}
+
+/// Whether the first n of the sizes are unequal.
+pub fn are_unequal(sizes: &[u8], n: usize) -> bool {
+    sizes.get(..n).is_some_and(|used| !used.is_empty() && oracle::one_size(used).is_none())
 }
 
 /// Takes simpler calls as long as they still differ, for at most twenty seconds.

@@ -1,6 +1,7 @@
 //! CLUT elements: reading one as a compared call, and a lookup in the table that was read.
 
-use crate::case::{compare, guarded, number, numbers, sentinel, Case, GUARD};
+use crate::case::{are_unequal, compare, guarded, number, numbers, sentinel, Case, Sort, GUARD};
+use crate::grids::padded;
 use crate::library;
 use oracle::{clut, expected};
 
@@ -17,25 +18,28 @@ pub struct Clut {
 }
 
 impl Clut {
-    /// An element of sixteen sizes g and its head; the padding is not 0 and the data follows.
-    pub fn good(g: u8, n: usize, m: usize, precision: u8, data: &[u8]) -> Clut {
-        let mut element = vec![g; 16];
+    /// An element and its head; the sizes after those in use are the first one again, the padding is not 0 and the data follows.
+    pub fn good(sizes: &[u8], m: usize, precision: u8, data: &[u8]) -> Clut {
+        let mut element = padded(sizes).to_vec();
         element.extend([precision, 0xEE, 0xFF, 0x01]);
         element.extend(data);
-        let total = expected::total(g, n, m) as usize;
-        Clut { element, n, m, old: (0..total).map(sentinel).collect() }
+        let total = expected::total(sizes, m) as usize;
+        Clut { element, n: sizes.len(), m, old: (0..total).map(sentinel).collect() }
     }
+}
 
-    /// The sizes afterwards, which are the element's where the call is done.
-    fn sizes(&self) -> [u8; 16] {
-        let done = self.number() == 0;
-        clut::sizes(&self.element).filter(|_| done).unwrap_or([UNTOUCHED; 16])
-    }
+/// The sizes afterwards: the record's where the call is done, the element's first n and then zeros.
+fn sizes_after(read: &clut::Read) -> [u8; 16] {
+    if read.number == 0 { std::array::from_fn(|ink| read.record[48 + ink] as u8) } else { [UNTOUCHED; 16] }
 }
 
 impl Case for Clut {
     fn number(&self) -> u32 {
         clut::number(&self.element, self.n, self.m, self.old.len())
+    }
+
+    fn unequal(&self) -> Option<Sort> {
+        are_unequal(&self.element[..self.element.len().min(16)], self.n).then_some(Sort::Element)
     }
 
     fn difference(&self) -> Option<String> {
@@ -48,8 +52,8 @@ impl Case for Clut {
         if got != right.number {
             return Some(format!("the number is {got}, not {}", right.number));
         }
-        if sizes != self.sizes() {
-            return Some(format!("the sizes are {sizes:?}, not {:?}", self.sizes()));
+        if sizes != sizes_after(&right) {
+            return Some(format!("the sizes are {sizes:?}, not {:?}", sizes_after(&right)));
         }
         (0..buffer.len()).find_map(|place| {
             let at = place as isize - GUARD as isize;
@@ -106,7 +110,11 @@ impl Case for ReadLookup {
     fn parted(&self) -> Option<bool> {
         let Clut { element, n, m, old } = &self.clut;
         let read = clut::read(element, *n, *m, old);
-        (read.number == 0).then(|| oracle::parted(element[0], *n, *m, &read.entries, &self.inputs)).flatten()
+        (read.number == 0).then(|| oracle::parted(&element[..*n], *m, &read.entries, &self.inputs)).flatten()
+    }
+
+    fn unequal(&self) -> Option<Sort> {
+        self.clut.unequal().map(|_| Sort::Lookup)
     }
 
     fn difference(&self) -> Option<String> {
@@ -122,7 +130,7 @@ impl Case for ReadLookup {
         if got != 0 {
             return Some(format!("the lookup's number is {got}, not 0"));
         }
-        compare(&answer, &oracle::lookup(element[0], *n, *m, &right.entries, &self.inputs))
+        compare(&answer, &oracle::lookup(&element[..*n], *m, &right.entries, &self.inputs))
     }
 
     fn smaller(&self, take: &mut dyn FnMut(Self) -> bool) {

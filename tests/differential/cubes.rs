@@ -126,7 +126,7 @@ pub fn cubes(run: &mut Run, rng: &mut Rng, count: u64) {
     for i in 0..count {
         let g = if rng.one_in(64) { rng.pick(CUBE_SIZES) } else { rng.within(1, 5) as u8 };
         let m = rng.within(3, 4);
-        let mut cube = vec![0.0; expected::total(g, 3, m) as usize + rng.below(2)];
+        let mut cube = vec![0.0; expected::total(&[g; 3], m) as usize + rng.below(2)];
         fill_table(rng, &mut cube);
         let node = |rng: &mut Rng| rng.below(g as usize);
         let x = [node(rng), node(rng), node(rng)];
@@ -154,7 +154,7 @@ fn damage(rng: &mut Rng, call: &mut Cube) {
     match rng.below(6) {
         0 => call.m = rng.pick(&[0, 1, 2, 5, 15, 16, (1 << 32) + 3, usize::MAX]),
         1 => call.g = 0,
-        2 => call.cube.truncate((expected::total(call.g, 3, call.m.min(15)) as usize).saturating_sub(1)),
+        2 => call.cube.truncate((expected::total(&[call.g; 3], call.m.min(15)) as usize).saturating_sub(1)),
         3 => call.answer = rng.pick(&[0, call.m.min(15).saturating_sub(1)]),
         4 => call.x[rng.below(3)] = outside,
         _ => call.x_n[rng.below(3)] = outside,

@@ -2,8 +2,8 @@
 
 use crate::case::{sentinel, Run};
 use crate::cluts::{Clut, ReadLookup};
+use crate::grids::{equal, grid, laid, Sizes};
 use crate::limits::COUNTS;
-use crate::random::counts;
 use crate::values::{random_inputs, Rng, ENTRIES};
 use oracle::expected;
 
@@ -12,24 +12,17 @@ pub fn all(run: &mut Run, rng: &mut Rng, long: bool) {
     values(run);
     limits(run, rng);
     run.kind("CLUTs, random sizes, counts, precisions and lengths");
-    for _ in 0..times * 130_000 {
-        run.hold(random(rng));
-    }
+    (0..times * 130_000).for_each(|_| run.hold(random(rng, Sizes::Equal)));
+    run.kind("CLUTs with unequal sizes, random counts, precisions and lengths");
+    (0..times * 130_000).for_each(|_| run.hold(random(rng, Sizes::Unequal)));
     run.kind("CLUTs, damaged copies of good ones");
-    for _ in 0..times * 80_000 {
-        let mut call = good(rng, &SMALL);
-        for _ in 0..rng.within(1, 3) {
-            damage(rng, &mut call);
-        }
-        run.hold(call);
-    }
+    (0..times * 80_000).for_each(|_| run.hold(damaged(rng, Sizes::Equal)));
+    run.kind("CLUTs with unequal sizes, damaged copies of good ones");
+    (0..times * 80_000).for_each(|_| run.hold(damaged(rng, Sizes::Unequal)));
     run.kind("lookups in tables that were read from a CLUT");
-    for _ in 0..times * 10_000 {
-        let clut = good(rng, &[30, 300, 1_000, 4_000]);
-        let mut inputs = vec![0.0; clut.n];
-        random_inputs(rng, clut.element[0], &mut inputs);
-        run.hold(ReadLookup { clut, inputs });
-    }
+    (0..times * 10_000).for_each(|_| run.hold(read_lookup(rng, Sizes::Equal)));
+    run.kind("lookups in tables that were read from a CLUT with unequal sizes");
+    (0..times * 10_000).for_each(|_| run.hold(read_lookup(rng, Sizes::Unequal)));
 }
 
 /// Each value alone, then all of one width in one element, so that each stands at many places.
@@ -38,9 +31,9 @@ fn values(run: &mut Run) {
     let (one, two): (Vec<u8>, Vec<u8>) = ((0..=255).collect(), (0..=65_535u16).flat_map(u16::to_be_bytes).collect());
     for (precision, g, n, data) in [(1, 16, 2, one), (2, 16, 4, two)] {
         for value in data.chunks(precision as usize) {
-            run.hold(Clut::good(1, 1, 1, precision, value));
+            run.hold(Clut::good(&[1], 1, precision, value));
         }
-        run.hold(Clut::good(g, n, 1, precision, &data));
+        run.hold(Clut::good(&equal(g, n), 1, precision, &data));
     }
 }
 
@@ -65,8 +58,8 @@ fn changed(rng: &mut Rng, call: &mut Clut, change: Change) {
 }
 
 /// What stands at or around a limit of a layout's call.
-fn changes(g: u8, n: usize, m: usize) -> Vec<Change> {
-    let total = expected::total(g, n, m) as usize;
+fn changes(used: &[u8], m: usize) -> Vec<Change> {
+    let (n, total) = (used.len(), expected::total(used, m) as usize);
     let mut list: Vec<Change> = [0, 1, 15, 16, 17, 19, 20, 21].map(Change::Length).into();
     for needed in [20 + total, 20 + 2 * total] {
         list.extend([needed - 1, needed, needed + 1].map(Change::Length));
@@ -76,7 +69,7 @@ fn changes(g: u8, n: usize, m: usize) -> Vec<Change> {
     list.extend([0, 1, 2, 3, 4, 128, 255].map(|precision| Change::Byte(16, precision)));
     list.extend([17, 18, 19].map(|padding| Change::Byte(padding, 0)));
     for place in [0, n - 1, n.min(15), 15] {
-        list.extend([0, 1, g ^ 1, 255].map(|size| Change::Byte(place, size)));
+        list.extend([0, 1, used[place.min(n - 1)] ^ 1, 255].map(|size| Change::Byte(place, size)));
     }
     list.extend([0, total - 1, total, total + 1, 2 * total].map(Change::Room));
     list
@@ -85,15 +78,24 @@ fn changes(g: u8, n: usize, m: usize) -> Vec<Change> {
 fn limits(run: &mut Run, rng: &mut Rng) {
     run.kind("CLUTs around every limit, every pair of them");
     for (g, n, m) in [(1, 1, 1), (1, 15, 15), (2, 1, 1), (2, 2, 3), (3, 3, 4), (2, 8, 1)] {
-        let list = changes(g, n, m);
-        for precision in [1, 2] {
-            let data: Vec<u8> = (0..precision as u128 * expected::total(g, n, m)).map(|_| rng.next() as u8).collect();
-            for (&first, &second) in list.iter().flat_map(|first| list.iter().map(move |second| (first, second))) {
-                let mut call = Clut::good(g, n, m, precision, &data);
-                changed(rng, &mut call, first);
-                changed(rng, &mut call, second);
-                run.hold(call);
-            }
+        pairs(run, rng, &equal(g, n), m);
+    }
+    run.kind("CLUTs with unequal sizes around every limit, every pair of them");
+    let grids: [(&[u8], usize); 4] = [(&[2, 3], 1), (&[3, 2], 3), (&[5, 1, 2], 2), (&[1, 2, 1, 3, 1, 2, 2], 1)];
+    for (sizes, m) in grids {
+        pairs(run, rng, sizes, m);
+    }
+}
+
+fn pairs(run: &mut Run, rng: &mut Rng, sizes: &[u8], m: usize) {
+    let list = changes(sizes, m);
+    for precision in [1, 2] {
+        let data: Vec<u8> = (0..precision as u128 * expected::total(sizes, m)).map(|_| rng.next() as u8).collect();
+        for (&first, &second) in list.iter().flat_map(|first| list.iter().map(move |second| (first, second))) {
+            let mut call = Clut::good(sizes, m, precision, &data);
+            changed(rng, &mut call, first);
+            changed(rng, &mut call, second);
+            run.hold(call);
         }
     }
 }
@@ -107,21 +109,36 @@ fn old(rng: &mut Rng, len: usize) -> Vec<f32> {
 const SMALL: [u128; 5] = [10, 30, 100, 100, 300];
 
 /// A random accepted call: sizes that do not count, padding, old contents, bytes after the data and longer buffers are anything.
-fn good(rng: &mut Rng, bounds: &[u128]) -> Clut {
+fn good(rng: &mut Rng, bounds: &[u128], sizes: Sizes) -> Clut {
     let bound = rng.pick(bounds);
-    let (g, n, m) = counts(rng, bound);
-    let (precision, total) = (rng.within(1, 2), expected::total(g, n, m) as usize);
+    let (used, m) = grid(rng, bound, sizes);
+    let (precision, total) = (rng.within(1, 2), expected::total(&used, m) as usize);
     let after = if rng.one_in(2) { rng.below(9) } else { 0 };
     let mut element: Vec<u8> = (0..20 + precision * total + after).map(|_| rng.next() as u8).collect();
-    element[..n].fill(g);
+    element[..16].copy_from_slice(&laid(rng, &used));
     element[16] = precision as u8;
     let longer = if rng.one_in(2) { rng.below(12) } else { 0 };
-    Clut { element, n, m, old: old(rng, total + longer) }
+    Clut { element, n: used.len(), m, old: old(rng, total + longer) }
 }
 
-/// Any sizes, mostly equal, with any counts; a length and a buffer at, one below or one above what is needed, where that is not too much.
-fn random(rng: &mut Rng) -> Clut {
-    let mut call = good(rng, &SMALL);
+fn damaged(rng: &mut Rng, sizes: Sizes) -> Clut {
+    let mut call = good(rng, &SMALL, sizes);
+    for _ in 0..rng.within(1, 3) {
+        damage(rng, &mut call);
+    }
+    call
+}
+
+fn read_lookup(rng: &mut Rng, sizes: Sizes) -> ReadLookup {
+    let clut = good(rng, &[30, 300, 1_000, 4_000], sizes);
+    let mut inputs = vec![0.0; clut.n];
+    random_inputs(rng, &clut.element[..clut.n], &mut inputs);
+    ReadLookup { clut, inputs }
+}
+
+/// Any sizes with any counts; a length and a buffer at, one below or one above what is needed, where that is not too much.
+fn random(rng: &mut Rng, sizes: Sizes) -> Clut {
+    let mut call = good(rng, &SMALL, sizes);
     if rng.one_in(3) {
         call.n = rng.below(18);
     }
@@ -134,7 +151,7 @@ fn random(rng: &mut Rng) -> Clut {
     if rng.one_in(6) {
         call.element[16] = if rng.one_in(2) { rng.below(5) as u8 } else { rng.next() as u8 };
     }
-    let total = expected::total(call.element[0], call.n.min(15), call.m.min(15)).min(2_000) as usize;
+    let total = expected::total(&call.element[..call.n.min(15)], call.m.min(15)).min(2_000) as usize;
     let near = |rng: &mut Rng, exact: usize| (exact + rng.pick(&[0, 1, 1, 1, 2])).saturating_sub(1);
     let width = rng.pick(&[1, 2, call.element[16].min(2) as usize]);
     let length = near(rng, 20 + total * width);

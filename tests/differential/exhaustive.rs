@@ -1,29 +1,38 @@
 //! Lookups over whole sets of special inputs, and just under powers of two, where the rounded p+1 skips a node.
 
 use crate::case::Run;
+use crate::grids::equal;
 use crate::lookups::Lookup;
 use crate::values::{fill_table, random_inputs, skipping, special_inputs, Rng};
 use oracle::expected;
 
 /// A table of shares of 0 to 1, and one of a random sort.
-fn tables(rng: &mut Rng, g: u8, n: usize, m: usize) -> [Vec<f32>; 2] {
-    let total = expected::total(g, n, m) as usize;
+pub fn tables(rng: &mut Rng, sizes: &[u8], m: usize) -> [Vec<f32>; 2] {
+    let total = expected::total(sizes, m) as usize;
     let mut sorted = vec![0.0; total];
     fill_table(rng, &mut sorted);
     [(0..total).map(|_| rng.unit()).collect(), sorted]
 }
 
-/// Every choice of n of the values.
-fn every(values: &[f32], n: usize, mut call: impl FnMut(&[f32])) {
-    let mut places = vec![0; n];
-    let mut inputs = vec![values[0]; n];
+/// Every choice of an input for each ink from its list.
+pub fn every(lists: &[Vec<f32>], mut call: impl FnMut(&[f32])) {
+    let mut places = vec![0; lists.len()];
+    let mut inputs: Vec<f32> = lists.iter().map(|list| list[0]).collect();
     loop {
         call(&inputs);
-        let Some(ink) = (0..n).find(|&i| places[i] + 1 < values.len()) else { return };
+        let Some(ink) = (0..lists.len()).find(|&i| places[i] + 1 < lists[i].len()) else { return };
         for i in 0..=ink {
             places[i] = if i == ink { places[i] + 1 } else { 0 };
-            inputs[i] = values[places[i]];
+            inputs[i] = lists[i][places[i]];
         }
+    }
+}
+
+/// Both tables of a grid, and in them every choice of special inputs of its inks.
+pub fn special(run: &mut Run, rng: &mut Rng, sizes: &[u8], m: usize) {
+    let lists: Vec<Vec<f32>> = sizes.iter().map(|&size| special_inputs(size)).collect();
+    for table in tables(rng, sizes, m) {
+        every(&lists, |inputs| run.hold(Lookup::good(sizes, m, &table, inputs)));
     }
 }
 
@@ -32,33 +41,27 @@ pub fn short(run: &mut Run, rng: &mut Rng, long: bool) {
     run.kind("one ink, g 1 to 255, every special input");
     for g in 1..=255 {
         for m in 1..=4 {
-            for table in tables(rng, g, 1, m) {
-                every(&special_inputs(g), 1, |inputs| run.hold(Lookup::good(g, 1, m, &table, inputs)));
-            }
+            special(run, rng, &equal(g, 1), m);
         }
     }
     run.kind("two inks, g 1 to 4 and larger, every pair of special inputs");
     for g in [1, 2, 3, 4, 5, 9, 10, 17, 18, 33, 34, 65, 66, 129, 130, 255] {
         for m in if g < 5 { 1..=4 } else { 1..=1 } {
-            for table in tables(rng, g, 2, m) {
-                every(&special_inputs(g), 2, |inputs| run.hold(Lookup::good(g, 2, m, &table, inputs)));
-            }
+            special(run, rng, &equal(g, 2), m);
         }
     }
     run.kind("three inks, g 1 to 4, every triple of special inputs");
     for g in 1..=4 {
         for m in 1..=if long { 8 } else { 3 } {
-            for table in tables(rng, g, 3, m) {
-                every(&special_inputs(g), 3, |inputs| run.hold(Lookup::good(g, 3, m, &table, inputs)));
-            }
+            special(run, rng, &equal(g, 3), m);
         }
     }
     run.kind("three to five inks, g 2 and 3, every choice of ten inputs");
     let ten = [0x0000_0000, 0x8000_0000, 0x0000_0001, 0x3E80_0000, 0x3EFF_FFFF, 0x3F00_0000, 0x3F40_0000, 0x3F7F_FFFF, 0x3F80_0000, 0x7FC0_0000];
     let ten = ten.map(f32::from_bits);
     for (g, n) in [(2, 3), (3, 3), (2, 4), (3, 4), (2, 5), (3, 5)] {
-        for table in tables(rng, g, n, 1) {
-            every(&ten, n, |inputs| run.hold(Lookup::good(g, n, 1, &table, inputs)));
+        for table in tables(rng, &equal(g, n), 1) {
+            every(&vec![ten.to_vec(); n], |inputs| run.hold(Lookup::good(&equal(g, n), 1, &table, inputs)));
         }
     }
 }
@@ -70,25 +73,24 @@ pub fn skips(run: &mut Run, rng: &mut Rng, long: bool) {
         let bound = if long { 40_000_000 } else { 2_000_000 };
         let sizes: Vec<u8> = [3, 4, 5, 6, 9, 10, 17, 18, 33, 34, 65, 66, 129, 130, 255]
             .into_iter()
-            .filter(|&g| g == 3 || expected::total(g, n, 1) <= bound)
+            .filter(|&g| g == 3 || expected::total(&equal(g, n), 1) <= bound)
             .collect();
         for g in sizes {
-            for table in tables(rng, g, n, 1) {
-                each_skip(run, rng, g, n, &table);
+            for table in tables(rng, &equal(g, n), 1) {
+                each_skip(run, rng, &equal(g, n), &table);
             }
         }
     }
 }
 
-fn each_skip(run: &mut Run, rng: &mut Rng, g: u8, n: usize, table: &[f32]) {
-    let mut inputs = vec![0.0; n];
-    for product in skipping(g) {
-        for ink in 0..n {
-            for _ in 0..if n < 9 { 12 } else { 2 } {
-                random_inputs(rng, g, &mut inputs);
-                inputs[ink] = product;
-                run.hold(Lookup::good(g, n, 1, table, &inputs));
-            }
+/// Each ink at each product just under a power of two that its size leaves room for.
+pub fn each_skip(run: &mut Run, rng: &mut Rng, sizes: &[u8], table: &[f32]) {
+    let mut inputs = vec![0.0; sizes.len()];
+    for (ink, product) in (0..sizes.len()).flat_map(|ink| skipping(sizes[ink]).into_iter().map(move |product| (ink, product))) {
+        for _ in 0..if sizes.len() < 9 { 12 } else { 2 } {
+            random_inputs(rng, sizes, &mut inputs);
+            inputs[ink] = product;
+            run.hold(Lookup::good(sizes, 1, table, &inputs));
         }
     }
 }
@@ -111,25 +113,24 @@ pub fn checked(run: &mut Run) {
     ];
     for (g, table, inputs, bits) in cases {
         let n = inputs.len();
-        let answers = [oracle::rust_lookup(g, n, 1, table, inputs), oracle::definition::lookup(&vec![g; n], 1, table, inputs)];
+        let answers = [oracle::rust_lookup(g, n, 1, table, inputs), oracle::definition::lookup(&equal(g, n), 1, table, inputs)];
         let rust_bits = if n == 5 { 0x3F7F_FFFF } else { bits };
         assert_eq!(answers.map(|a| a[0].to_bits()), [rust_bits, bits], "an oracle itself does not give the checked answer");
-        run.hold(Lookup::good(g, inputs.len(), 1, table, inputs));
+        run.hold(Lookup::good(&equal(g, n), 1, table, inputs));
     }
 }
 
 /// Signalling NaN inputs, on machines where they are not left out.
 pub fn signalling(run: &mut Run, rng: &mut Rng) {
     run.kind("signalling NaN inputs");
-    for n in 1..=8 {
-        for g in 1..=3 {
-            let [table, _] = tables(rng, g, n, 2);
-            let mut inputs = vec![0.0; n];
-            for i in 0..200 {
-                random_inputs(rng, g, &mut inputs);
-                inputs[i % n] = f32::from_bits(rng.pick(&[0x7F80_0001, 0x7FBF_FFFF, 0xFF80_0001, 0xFFA5_A5A5]));
-                run.hold(Lookup::good(g, n, 2, &table, &inputs));
-            }
+    let grids = (1..=8).flat_map(|n| (1..=3).map(move |g| equal(g, n)).chain([(0..n).map(|ink| 1 + ink as u8 % 3).collect()]));
+    for sizes in grids {
+        let [table, _] = tables(rng, &sizes, 2);
+        let mut inputs = vec![0.0; sizes.len()];
+        for i in 0..200 {
+            random_inputs(rng, &sizes, &mut inputs);
+            inputs[i % sizes.len()] = f32::from_bits(rng.pick(&[0x7F80_0001, 0x7FBF_FFFF, 0xFF80_0001, 0xFFA5_A5A5]));
+            run.hold(Lookup::good(&sizes, 2, &table, &inputs));
         }
     }
 }

@@ -1,8 +1,8 @@
 //! Demand 3 from end to end: an ink on a grid line, and lookups with and without it in the table and in the slab that the library cuts.
 
-use crate::case::{compare, guarded, number, numbers, Case, Run, GUARD};
+use crate::case::{are_unequal, compare, guarded, number, numbers, Case, Run, Sort, GUARD};
+use crate::grids::{of_counts, padded, Sizes};
 use crate::library;
-use crate::random::size;
 use crate::values::{after, askable, random_input, random_inputs, with_products, Rng};
 use oracle::{expected, slab};
 use std::borrow::Cow;
@@ -10,8 +10,8 @@ use std::borrow::Cow;
 /// A lookup with ink j on line k, in the whole table and, without that ink, in the slab.
 #[derive(Clone)]
 struct Fixed<'a> {
-    g: u8,
-    n: usize,
+    /// The sizes in use.
+    sizes: Vec<u8>,
     m: usize,
     table: Cow<'a, [f32]>,
     j: usize,
@@ -28,16 +28,18 @@ impl Fixed<'_> {
         inputs
     }
 
-    /// The library's answer in the whole table and in the slab that it cuts, in guarded buffers.
+    /// The library's answer in the whole table and in the slab that it cuts, in guarded buffers. For the slab ink j's size is taken out.
     fn answers(&self) -> Result<[Vec<f32>; 2], String> {
-        let Fixed { g, n, m, .. } = *self;
-        let (sizes, mut whole, mut fewer) = ([g; 16], guarded(m), guarded(m));
-        let mut part = vec![f32::NAN; expected::total(g, n - 1, m) as usize + self.longer];
-        let lookup = |n, table: &[f32], inputs: &[f32], answer: &mut [f32]| library::lookup(&sizes, n, m, table, inputs, &mut answer[GUARD..GUARD + m]);
+        let (m, sizes, left) = (self.m, &self.sizes[..], &slab::without(&self.sizes, self.j)[..]);
+        let (mut whole, mut fewer) = (guarded(m), guarded(m));
+        let mut part = vec![f32::NAN; expected::total(left, m) as usize + self.longer];
+        let lookup = |sizes: &[u8], table: &[f32], inputs: &[f32], answer: &mut [f32]| {
+            library::lookup(&padded(sizes), sizes.len(), m, table, inputs, &mut answer[GUARD..GUARD + m])
+        };
         let numbers = [
-            library::cut_slab(&sizes, n, m, &self.table, self.j, self.k, &mut part),
-            lookup(n, &self.table, &self.inputs, &mut whole),
-            lookup(n - 1, &part, &self.others(), &mut fewer),
+            library::cut_slab(&padded(sizes), sizes.len(), m, &self.table, self.j, self.k, &mut part),
+            lookup(sizes, &self.table, &self.inputs, &mut whole),
+            lookup(left, &part, &self.others(), &mut fewer),
         ];
         if numbers == [0; 3] { Ok([whole, fewer]) } else { Err(format!("the numbers of the cut and of both lookups are {numbers:?}")) }
     }
@@ -53,12 +55,16 @@ impl Fixed<'_> {
 
 impl Case for Fixed<'_> {
     fn number(&self) -> u32 {
-        slab::number(&[self.g; 16], self.n, self.m, self.table.len(), self.j, self.k, usize::MAX)
+        slab::number(&padded(&self.sizes), self.sizes.len(), self.m, self.table.len(), self.j, self.k, usize::MAX)
     }
 
     /// Of its two lookups the one in the whole table.
     fn parted(&self) -> Option<bool> {
-        oracle::parted(self.g, self.n, self.m, &self.table, &self.inputs)
+        oracle::parted(&self.sizes, self.m, &self.table, &self.inputs)
+    }
+
+    fn unequal(&self) -> Option<Sort> {
+        are_unequal(&self.sizes, self.sizes.len()).then_some(Sort::Lookup)
     }
 
     fn difference(&self) -> Option<String> {
@@ -66,14 +72,14 @@ impl Case for Fixed<'_> {
             Ok(answers) => answers,
             Err(refused) => return Some(refused),
         };
-        let right = slab::entries(self.g, self.n, self.m, &self.table, self.j, self.k);
-        compare(&answers[1], &oracle::lookup(self.g, self.n - 1, self.m, &right, &self.others()))
+        let right = slab::entries(&self.sizes, self.m, &self.table, self.j, self.k);
+        compare(&answers[1], &oracle::lookup(&slab::without(&self.sizes, self.j), self.m, &right, &self.others()))
             .map(|told| format!("in the slab, against the oracle: {told}"))
             .or_else(|| self.apart(&answers))
     }
 
     fn smaller(&self, take: &mut dyn FnMut(Self) -> bool) {
-        for ink in (0..self.n).filter(|&ink| ink + 1 != self.j && self.inputs[ink].to_bits() != 0) {
+        for ink in (0..self.sizes.len()).filter(|&ink| ink + 1 != self.j && self.inputs[ink].to_bits() != 0) {
             let mut call = self.clone();
             call.inputs[ink] = 0.0;
             if take(call) {
@@ -90,10 +96,10 @@ impl Case for Fixed<'_> {
     }
 
     fn shown(&self) -> String {
-        let Fixed { g, n, m, table, j, k, inputs, longer } = self;
+        let Fixed { sizes, m, table, j, k, inputs, longer } = self;
         let inputs: Vec<String> = inputs.iter().map(|&x| number(x)).collect();
         let inputs = inputs.join(", ");
-        format!("ink {j} on line {k}: g {g}, n {n}, m {m}, slab buffer longer by {longer}\n  inputs: {inputs}\n  table of {}", numbers(table))
+        format!("ink {j} on line {k}: sizes {sizes:?}, m {m}, slab buffer longer by {longer}\n  inputs: {inputs}\n  table of {}", numbers(table))
     }
 }
 
@@ -126,18 +132,26 @@ fn share(rng: &mut Rng) -> f32 {
 
 pub fn all(run: &mut Run, rng: &mut Rng, long: bool) {
     run.kind("lookups with ink 4 or a later one on a line, four to fifteen inks, in the table and in its slab (demand 3)");
-    for _ in 0..if long { 96_000 } else { 12_000 } {
+    on_lines(run, rng, if long { 96_000 } else { 12_000 }, Sizes::Equal);
+    run.kind("the same with unequal sizes: the ink on its own line, and its size taken out for the slab (demand 3)");
+    on_lines(run, rng, if long { 96_000 } else { 12_000 }, Sizes::Unequal);
+}
+
+/// Sixteen lookups in each of so many tables.
+fn on_lines(run: &mut Run, rng: &mut Rng, tables: usize, sizes: Sizes) {
+    for _ in 0..tables {
         let (n, m) = (if rng.one_in(64) { rng.within(9, 15) } else { rng.within(4, 8) }, if rng.one_in(8) { rng.within(1, 15) } else { rng.within(1, 4) });
         let bound = rng.pick(&[300, 300, 1_000, 1_000, 4_000, 4_000, 20_000, 300_000]);
-        let g = size(rng, n, m, bound);
-        let table: Vec<f32> = (0..expected::total(g, n, m)).map(|_| share(rng)).collect();
+        let used = of_counts(rng, n, m, bound, sizes);
+        let table: Vec<f32> = (0..expected::total(&used, m)).map(|_| share(rng)).collect();
         for _ in 0..16 {
-            let (j, k) = (rng.within(4, n), rng.below(g as usize));
-            let Some(x) = on_line(rng, g, k) else { continue };
+            let j = rng.within(4, n);
+            let k = rng.below(used[j - 1] as usize);
+            let Some(x) = on_line(rng, used[j - 1], k) else { continue };
             let mut inputs = vec![0.0; n];
-            random_inputs(rng, g, &mut inputs);
+            random_inputs(rng, &used, &mut inputs);
             inputs[j - 1] = x;
-            run.hold(Fixed { g, n, m, table: (&table).into(), j, k, inputs, longer: rng.pick(&[0, 0, 1, 9]) });
+            run.hold(Fixed { sizes: used.clone(), m, table: (&table).into(), j, k, inputs, longer: rng.pick(&[0, 0, 1, 9]) });
         }
     }
 }

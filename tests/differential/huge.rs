@@ -3,8 +3,9 @@
 //! not lend so much address space the kind says so and compares nothing.
 
 use crate::case::Run;
+use crate::grids::{equal, padded};
 use crate::lookups::Lookup;
-use crate::values::{before, random_inputs, with_product, Rng};
+use crate::values::{before, random_inputs, skipping, Rng};
 use oracle::{definition::product, expected, skips};
 use std::ffi::c_void;
 
@@ -42,33 +43,50 @@ pub fn lookups(run: &mut Run, rng: &mut Rng, long: bool) {
     run.kind("lookups in tables of up to 4,294,967,295 entries");
     // The largest accepted layouts for four to eight inks; five of 66 lines, the fewest with which p+1 skips a node just under 64.
     for (g, n, m) in [(255, 4, 1), (138, 4, 11), (84, 5, 1), (66, 5, 3), (40, 6, 1), (23, 7, 1), (15, 8, 1)] {
-        assert_eq!(expected::layout(&[g; 16], n, m), 0);
-        let Some(mut zeros) = Zeros::new(expected::total(g, n, m) as usize) else {
-            println!("            no address space for g {g}, n {n}, m {m}: left out");
-            continue;
-        };
-        let mut inputs = vec![0.0; n];
-        for i in 0..if long { 400 } else { 40 } {
-            random_inputs(rng, g, &mut inputs);
-            match i % 4 {
-                0 => inputs.fill(1.0),
-                1 => inputs.fill(before(1.0)),
-                2 => inputs[n - 1 - i / 4 % 2] = with_product(g, before(64.0)).unwrap_or(1.0),
-                _ => {}
-            }
-            around(rng, zeros.entries(), g, m, &inputs);
-            run.hold(Lookup::good(g, n, m, &*zeros.entries(), &inputs));
+        within(run, rng, &equal(g, n), m, long);
+    }
+    run.kind("lookups with unequal sizes in tables of up to 4,294,967,280 entries");
+    for (sizes, m) in UNEQUAL {
+        within(run, rng, sizes, m, long);
+    }
+}
+
+/// Unequal sizes with totals at or near the largest, 4,294,967,280: the large ones first, last and between.
+pub const UNEQUAL: [(&[u8], usize); 7] = [
+    (&[254, 226, 215, 174], 2), (&[2, 174, 215, 226, 254], 1), (&[255, 255, 255, 17], 15), (&[2, 3, 2, 3, 254, 254, 254], 7),
+    (&[255, 3, 2, 254, 2, 2, 255], 10), (&[3, 130, 2, 2, 255, 2, 255, 21], 1), (&[1, 255, 1, 1, 1, 1, 255, 1, 1, 255, 1, 1, 1, 1, 255], 1),
+];
+
+/// Lookups in one such table: at the last node, just under it, just under 64 and 128, and anywhere.
+fn within(run: &mut Run, rng: &mut Rng, sizes: &[u8], m: usize, long: bool) {
+    let n = sizes.len();
+    assert_eq!(expected::layout(&padded(sizes), n, m), 0);
+    let Some(mut zeros) = Zeros::new(expected::total(sizes, m) as usize) else {
+        println!("            no address space for sizes {sizes:?}, m {m}: left out");
+        return;
+    };
+    let mut inputs = vec![0.0; n];
+    for i in 0..if long { 400 } else { 40 } {
+        random_inputs(rng, sizes, &mut inputs);
+        let ink = n - 1 - i / 4 % 2;
+        match i % 4 {
+            0 => inputs.fill(1.0),
+            1 => inputs.fill(before(1.0)),
+            2 => inputs[ink] = skipping(sizes[ink]).last().copied().unwrap_or(1.0),
+            _ => {}
         }
+        around(rng, zeros.entries(), sizes, m, &inputs);
+        run.hold(Lookup::good(sizes, m, &*zeros.entries(), &inputs));
     }
 }
 
 /// Random entries at the nodes around the inputs: those of each ink's line, of the next and, where p+1 skips that one, of the one after it.
-pub fn around(rng: &mut Rng, table: &mut [f32], g: u8, m: usize, inputs: &[f32]) {
+pub fn around(rng: &mut Rng, table: &mut [f32], sizes: &[u8], m: usize, inputs: &[f32]) {
     let mut nodes = vec![0];
-    for &x in inputs {
-        let low = product(g, x) as usize;
-        let high = (low + 1 + usize::from(skips(g, x))).min(g as usize - 1);
-        nodes = nodes.iter().flat_map(|node| (low..=high).map(move |k| node * g as usize + k)).collect();
+    for (&size, &x) in sizes.iter().zip(inputs) {
+        let low = product(size, x) as usize;
+        let high = (low + 1 + usize::from(skips(size, x))).min(size as usize - 1);
+        nodes = nodes.iter().flat_map(|node| (low..=high).map(move |k| node * size as usize + k)).collect();
     }
     for node in nodes {
         table[node * m..][..m].fill_with(|| rng.unit());

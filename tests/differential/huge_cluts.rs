@@ -1,8 +1,9 @@
 //! CLUT elements of up to 8 GB with buffers of up to 17 GB of address space, at the limits of their lengths: numbers of 32 bits would wrap there.
 //! Every call is refused, so that no page is written but the element's first.
 
-use crate::case::{Case, Run};
-use crate::huge::Zeros;
+use crate::case::{are_unequal, Case, Run, Sort};
+use crate::grids::{equal, padded};
+use crate::huge::{Zeros, UNEQUAL};
 use crate::library;
 use oracle::{clut, expected};
 use std::cell::RefCell;
@@ -18,6 +19,10 @@ struct Huge<'a> {
 impl Case for Huge<'_> {
     fn number(&self) -> u32 {
         clut::number(self.element, self.n, self.m, self.entries.borrow().len())
+    }
+
+    fn unequal(&self) -> Option<Sort> {
+        are_unequal(&self.element[..16], self.n).then_some(Sort::Element)
     }
 
     fn difference(&self) -> Option<String> {
@@ -45,17 +50,25 @@ pub fn refused(run: &mut Run) {
     run.kind("CLUTs of up to 8,456,501,270 bytes, refused");
     // 2 · 4^15 · 2 is 2^32; then the largest totals of 4 and of 15 inks.
     for (g, n, m) in [(4, 15, 2), (255, 4, 1), (4, 15, 3), (4, 15, 1)] {
-        let total = expected::total(g, n, m) as usize;
-        let (Some(mut element), Some(mut buffer)) = (Zeros::new(total / 2 + 8), Zeros::new(total)) else {
-            println!("            no address space for g {g}, n {n}, m {m}: left out");
-            continue;
-        };
-        for precision in [1, 2, 3] {
-            let bytes = element.bytes();
-            bytes[..16].fill(g);
-            bytes[16] = precision;
-            around(run, bytes, buffer.entries(), n, m, 20 + total * precision.min(2) as usize);
-        }
+        every_precision(run, &equal(g, n), m);
+    }
+    run.kind("CLUTs with unequal sizes of up to 8,589,934,581 bytes, refused");
+    for (sizes, m) in UNEQUAL {
+        every_precision(run, sizes, m);
+    }
+}
+
+fn every_precision(run: &mut Run, sizes: &[u8], m: usize) {
+    let total = expected::total(sizes, m) as usize;
+    let (Some(mut element), Some(mut buffer)) = (Zeros::new(total / 2 + 8), Zeros::new(total)) else {
+        println!("            no address space for sizes {sizes:?}, m {m}: left out");
+        return;
+    };
+    for precision in [1, 2, 3] {
+        let bytes = element.bytes();
+        bytes[..16].copy_from_slice(&padded(sizes));
+        bytes[16] = precision;
+        around(run, bytes, buffer.entries(), sizes.len(), m, 20 + total * precision.min(2) as usize);
     }
 }
 

@@ -1,6 +1,7 @@
 //! Lookups at and around every limit, alone and two at a time, so that the order of the refusals shows.
 
 use crate::case::Run;
+use crate::grids::{equal, padded};
 use crate::lookups::Lookup;
 use crate::values::{fill_table, random_inputs, Rng};
 use oracle::expected;
@@ -9,23 +10,27 @@ use oracle::expected;
 pub const COUNTS: [usize; 10] =
     [0, 16, 17, 255, 256 + 3, (1 << 16) + 3, (1 << 32) + 3, (1 << 32) + 1, 1 << 63, usize::MAX];
 
-/// What may be wrong with the sizes.
-fn damaged_sizes(g: u8, n: usize) -> Vec<[u8; 16]> {
-    let mut list = vec![[g; 16]];
+/// The sizes as they are, and with zeros or other sizes at the ends of those in use and of those that are not.
+fn changed_sizes(used: &[u8]) -> Vec<[u8; 16]> {
+    let (n, whole) = (used.len(), padded(used));
+    let mut list = vec![whole];
     for place in [0, n - 1, n.min(15), 15] {
-        for size in [0, g ^ 1, 255] {
-            let mut sizes = [g; 16];
+        for size in [0, whole[place] ^ 1, 255] {
+            let mut sizes = whole;
             sizes[place] = size;
             list.push(sizes);
         }
     }
-    // A zero and another size at once: 3 before 4, wherever they stand.
+    // A zero and another size at once, wherever they stand; then two sizes that change places.
     if n > 2 {
         for (zero, other) in [(n - 1, 1), (1, n - 1)] {
-            let mut sizes = [g; 16];
-            (sizes[zero], sizes[other]) = (0, g ^ 1);
+            let mut sizes = whole;
+            (sizes[zero], sizes[other]) = (0, whole[other] ^ 1);
             list.push(sizes);
         }
+        let mut sizes = whole;
+        sizes.swap(0, n - 1);
+        list.push(sizes);
     }
     list
 }
@@ -33,31 +38,40 @@ fn damaged_sizes(g: u8, n: usize) -> Vec<[u8; 16]> {
 pub fn lookups(run: &mut Run, rng: &mut Rng) {
     run.kind("lookups around every limit, every pair of them");
     for (g, n, m) in [(1, 1, 1), (1, 15, 15), (2, 1, 1), (2, 2, 3), (3, 3, 4), (2, 4, 15), (3, 5, 1), (2, 8, 3), (2, 11, 1), (255, 1, 2)] {
-        let total = expected::total(g, n, m) as usize;
-        let mut table = vec![0.0; total + 1];
-        fill_table(rng, &mut table);
-        let mut inputs = vec![0.0; 17];
-        random_inputs(rng, g, &mut inputs);
-        let ns: Vec<usize> = COUNTS.iter().copied().chain([n, n - 1, n + 1]).collect();
-        let ms: Vec<usize> = COUNTS.iter().copied().chain([m, m - 1, m + 1]).collect();
-        let whole = (g, n, m, total);
-        // Counts against everything, with the sizes as they are; then the sizes against everything.
-        for &n_asked in &ns {
-            for &m_asked in &ms {
-                lent(run, whole, [g; 16], n_asked, m_asked, &table, &inputs);
-            }
+        around(run, rng, &equal(g, n), m);
+    }
+    run.kind("lookups with unequal sizes around every limit, every pair of them");
+    let grids: [(&[u8], usize); 5] = [(&[2, 3], 1), (&[3, 2], 3), (&[4, 1, 2], 4), (&[2, 3, 1, 2, 3], 1), (&[1, 2, 1, 2, 1, 2, 1, 3], 2)];
+    for (sizes, m) in grids {
+        around(run, rng, sizes, m);
+    }
+}
+
+/// Counts against everything, with the sizes as they are; then the sizes against everything.
+fn around(run: &mut Run, rng: &mut Rng, used: &[u8], m: usize) {
+    let (n, total) = (used.len(), expected::total(used, m) as usize);
+    let mut table = vec![0.0; total + 1];
+    fill_table(rng, &mut table);
+    let mut inputs = vec![0.0; 17];
+    random_inputs(rng, used, &mut inputs);
+    let ns: Vec<usize> = COUNTS.iter().copied().chain([n, n - 1, n + 1]).collect();
+    let ms: Vec<usize> = COUNTS.iter().copied().chain([m, m - 1, m + 1]).collect();
+    let whole = (n, m, total);
+    for &n_asked in &ns {
+        for &m_asked in &ms {
+            lent(run, whole, padded(used), n_asked, m_asked, &table, &inputs);
         }
-        for sizes in damaged_sizes(g, n) {
-            for (n_asked, m_asked) in [(n, m), (n, 16), (16, m), (n, 0), (n + 1, m)] {
-                lent(run, whole, sizes, n_asked, m_asked, &table, &inputs);
-            }
+    }
+    for sizes in changed_sizes(used) {
+        for (n_asked, m_asked) in [(n, m), (n, 16), (16, m), (n, 0), (n + 1, m)] {
+            lent(run, whole, sizes, n_asked, m_asked, &table, &inputs);
         }
     }
 }
 
 /// One layout with every choice of short, exact and long table, inputs and buffer.
-fn lent(run: &mut Run, whole: (u8, usize, usize, usize), sizes: [u8; 16], n: usize, m: usize, table: &[f32], inputs: &[f32]) {
-    let (_, inks, outputs, total) = whole;
+fn lent(run: &mut Run, whole: (usize, usize, usize), sizes: [u8; 16], n: usize, m: usize, table: &[f32], inputs: &[f32]) {
+    let (inks, outputs, total) = whole;
     for table_len in [total - 1, total, total + 1, 0] {
         for inputs_len in [inks - 1, inks, inks + 1, 0, 17] {
             for answer in [outputs - 1, outputs, outputs + 1, 0] {

@@ -12,32 +12,44 @@ fn around(g: u8, line: u8, reach: u32) -> impl Iterator<Item = f32> {
     (near.saturating_sub(reach)..=near + reach).map(f32::from_bits)
 }
 
-fn table(rng: &mut Rng, g: u8, n: usize) -> Vec<f32> {
-    (0..expected::total(g, n, 1)).map(|_| rng.unit()).collect()
+fn table(rng: &mut Rng, sizes: &[u8]) -> Vec<f32> {
+    (0..expected::total(sizes, 1)).map(|_| rng.unit()).collect()
 }
 
 pub fn all(run: &mut Run, rng: &mut Rng, long: bool) {
     run.kind("one ink at each line of each grid, and the eight inputs on either side");
     for g in 1..=255 {
-        let table = table(rng, g, 1);
+        let table = table(rng, &[g]);
         for line in 0..g {
-            around(g, line, 8).for_each(|x| run.hold(Lookup::good(g, 1, 1, &table, &[x])));
+            around(g, line, 8).for_each(|x| run.hold(Lookup::good(&[g], 1, &table, &[x])));
         }
     }
     run.kind("each of six inks at each line of grids of up to 8 lines, and the two inputs on either side");
-    let mut inputs = [0.0; 6];
     for g in 2..=8 {
-        let table = table(rng, g, 6);
-        for (ink, line) in (0..6).flat_map(|ink| (0..g).map(move |line| (ink, line))) {
-            for x in (0..20).flat_map(|_| around(g, line, 2)) {
-                random_inputs(rng, g, &mut inputs);
-                inputs[ink] = x;
-                run.hold(Lookup::good(g, 6, 1, &table, &inputs));
-            }
-        }
+        each_line(run, rng, &[g; 6]);
+    }
+    run.kind("each of six or seven inks at each line of grids with unequal sizes, and the two inputs on either side");
+    let grids: [&[u8]; 8] = [
+        &[2, 3, 4, 5, 6, 7], &[7, 6, 5, 4, 3, 2], &[255, 1, 2, 1, 2, 3], &[1, 2, 1, 3, 255, 2], &[2, 1, 2, 130, 1, 1, 130], &[1, 66, 1, 1, 34, 18, 1],
+        &[3, 3, 3, 3, 5, 3], &[9, 9, 9, 2, 9, 9],
+    ];
+    for sizes in grids {
+        each_line(run, rng, sizes);
     }
     if long {
-        every_input(run, &table(rng, 255, 1));
+        every_input(run, &table(rng, &[255]));
+    }
+}
+
+/// Each ink at each of its own lines, the others anywhere.
+fn each_line(run: &mut Run, rng: &mut Rng, sizes: &[u8]) {
+    let (table, mut inputs) = (table(rng, sizes), vec![0.0; sizes.len()]);
+    for (ink, line) in (0..sizes.len()).flat_map(|ink| (0..sizes[ink]).map(move |line| (ink, line))) {
+        for x in (0..20).flat_map(|_| around(sizes[ink], line, 2)) {
+            random_inputs(rng, sizes, &mut inputs);
+            inputs[ink] = x;
+            run.hold(Lookup::good(sizes, 1, &table, &inputs));
+        }
     }
 }
 
@@ -50,7 +62,7 @@ fn every_input(run: &mut Run, table: &[f32]) {
         let input = [f32::from_bits(bits)];
         lut.lookup(table, &input, &mut rust);
         if library::lookup(&[255; 16], 1, 1, table, &input, &mut ours) != 0 || rust[0].to_bits() != ours[0].to_bits() {
-            run.hold(Lookup::good(255, 1, 1, table, &input));
+            run.hold(Lookup::good(&[255], 1, table, &input));
         }
     }
     run.compared(u64::from(1f32.to_bits()) + 1);

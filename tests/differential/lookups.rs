@@ -1,8 +1,9 @@
 //! A lookup as a compared call.
 
-use crate::case::{compare, guarded, number, numbers, plainness, Case, GUARD};
+use crate::case::{are_unequal, compare, guarded, number, numbers, plainness, Case, Sort, GUARD};
+use crate::grids::padded;
 use crate::library;
-use oracle::expected;
+use oracle::{expected, slab};
 use std::borrow::Cow;
 
 #[derive(Clone)]
@@ -17,26 +18,30 @@ pub struct Lookup<'a> {
 }
 
 impl<'a> Lookup<'a> {
-    /// A call that is accepted: all sixteen sizes g, a table of exactly the total, a buffer of m.
-    pub fn good(g: u8, n: usize, m: usize, table: impl Into<Cow<'a, [f32]>>, inputs: &[f32]) -> Lookup<'a> {
+    /// A call that is accepted: a table of exactly the total, a buffer of m; after the sizes in use stands the first one again.
+    pub fn good(sizes: &[u8], m: usize, table: impl Into<Cow<'a, [f32]>>, inputs: &[f32]) -> Lookup<'a> {
         let (table, inputs) = (table.into(), inputs.to_vec());
-        Lookup { sizes: [g; 16], n, m, table, inputs, answer: m }
+        Lookup { sizes: padded(sizes), n: sizes.len(), m, table, inputs, answer: m }
+    }
+
+    /// The sizes in use of a layout that is accepted.
+    pub fn used(&self) -> &[u8] {
+        &self.sizes[..self.n]
     }
 
     /// The entries that this layout needs, where the table is worth copying.
     fn total(&self) -> Option<usize> {
         let laid = expected::layout(&self.sizes, self.n, self.m) == 0 && self.table.len() <= 1 << 24;
-        let total = expected::total(self.sizes[0], self.n.min(15), self.m.min(15)) as usize;
-        (laid && total <= self.table.len()).then_some(total)
+        laid.then(|| expected::total(self.used(), self.m) as usize).filter(|&total| total <= self.table.len())
     }
 
-    /// The same call with other counts, and a table of their total with as many entries more or fewer as before.
-    fn resized(&self, g: u8, n: usize, m: usize, inputs: Vec<f32>, entries: impl Iterator<Item = f32>, more: usize) -> Self {
+    /// The same call with other sizes in use, and a table of their total with as many entries more as before.
+    fn resized(&self, used: &[u8], m: usize, inputs: Vec<f32>, entries: impl IntoIterator<Item = f32>, more: usize) -> Self {
         let mut sizes = self.sizes;
-        sizes[..self.n.min(16)].fill(g);
-        let table: Vec<f32> = entries.chain(std::iter::repeat(0.0)).take(expected::total(g, n, m) as usize + more).collect();
+        sizes[..used.len()].copy_from_slice(used);
+        let table: Vec<f32> = entries.into_iter().chain(std::iter::repeat(0.0)).take(expected::total(used, m) as usize + more).collect();
         let answer = self.answer.saturating_sub(self.m - m);
-        Lookup { sizes, n, m, table: table.into(), inputs, answer }
+        Lookup { sizes, n: used.len(), m, table: table.into(), inputs, answer }
     }
 }
 
@@ -46,7 +51,11 @@ impl Case for Lookup<'_> {
     }
 
     fn parted(&self) -> Option<bool> {
-        (self.number() == 0).then(|| oracle::parted(self.sizes[0], self.n, self.m, &self.table, &self.inputs)).flatten()
+        (self.number() == 0).then(|| oracle::parted(self.used(), self.m, &self.table, &self.inputs)).flatten()
+    }
+
+    fn unequal(&self) -> Option<Sort> {
+        are_unequal(&self.sizes, self.n).then_some(Sort::Lookup)
     }
 
     fn difference(&self) -> Option<String> {
@@ -60,34 +69,30 @@ impl Case for Lookup<'_> {
         if number != 0 {
             return compare(&buffer, &[]);
         }
-        compare(&buffer, &oracle::lookup(self.sizes[0], self.n, self.m, &self.table, &self.inputs))
+        compare(&buffer, &oracle::lookup(self.used(), self.m, &self.table, &self.inputs))
     }
 
     fn smaller(&self, take: &mut dyn FnMut(Self) -> bool) {
         let Some(total) = self.total() else { return };
-        let (g, n, m, more) = (self.sizes[0], self.n, self.m, self.table.len() - total);
-        let entries = || self.table.iter().copied();
-        // Fewer inks: each ink left out, on each line of the first.
-        if n > 1 {
-            for ink in 0..self.inputs.len() {
-                let mut inputs = self.inputs.clone();
-                inputs.remove(ink);
-                for line in 0..g as usize {
-                    if take(self.resized(g, n - 1, m, inputs.clone(), entries().skip(line * (total / g as usize)), more)) {
-                        return;
-                    }
+        let (used, m, more) = (self.used(), self.m, self.table.len() - total);
+        // Fewer inks: each ink left out, on each of its lines.
+        for j in (1..=used.len()).filter(|_| used.len() > 1) {
+            let inputs: Vec<f32> = self.inputs.iter().enumerate().filter(|(i, _)| i + 1 != j).map(|(_, &x)| x).collect();
+            for line in 0..used[j - 1] as usize {
+                if take(self.resized(&slab::without(used, j), m, inputs.clone(), slab::entries(used, m, &self.table, j, line), more)) {
+                    return;
                 }
             }
         }
         // Fewer outputs: each one left out.
         for o in (0..m).filter(|_| m > 1) {
-            let kept = entries().enumerate().filter(|(i, _)| i % m != o).map(|(_, e)| e);
-            if take(self.resized(g, n, m - 1, self.inputs.clone(), kept, more)) {
+            let kept = self.table.iter().enumerate().filter(|(i, _)| i % m != o).map(|(_, &e)| e);
+            if take(self.resized(used, m - 1, self.inputs.clone(), kept, more)) {
                 return;
             }
         }
-        for fewer in [1, 2, 3, g - 1] {
-            if fewer > 0 && fewer < g && take(self.resized(fewer, n, m, self.inputs.clone(), self.first_lines(fewer).into_iter(), more)) {
+        for fewer in self.fewer_lines() {
+            if take(self.resized(&fewer, m, self.inputs.clone(), self.first_lines(&fewer), more)) {
                 return;
             }
         }
@@ -110,13 +115,24 @@ impl Case for Lookup<'_> {
 }
 
 impl Lookup<'_> {
-    /// The table of the nodes on the first lines of every ink.
-    fn first_lines(&self, lines: u8) -> Vec<f32> {
-        let place = |e: usize| {
-            let coordinates: Vec<usize> = (0..self.n).rev().map(|i| e / self.m / (lines as usize).pow(i as u32) % lines as usize).collect();
-            expected::node_offset(self.sizes[0], self.m, &coordinates) + e % self.m
-        };
-        (0..expected::total(lines, self.n, self.m) as usize).map(|e| self.table[place(e)]).collect()
+    /// Smaller sizes: of all inks, then of each ink alone.
+    fn fewer_lines(&self) -> Vec<Vec<u8>> {
+        let used = self.used();
+        let less = |size: u8| [1, 2, 3, size - 1].into_iter().filter(move |&fewer| fewer > 0 && fewer < size);
+        let all = less(used.iter().copied().max().unwrap_or(1)).map(|most| used.iter().map(|&size| size.min(most)).collect());
+        let alone = (0..used.len()).flat_map(|ink| less(used[ink]).map(move |fewer| [&used[..ink], &[fewer], &used[ink + 1..]].concat()));
+        all.chain(alone).collect()
+    }
+
+    /// The table of the nodes on the first lines of every ink, as many as `lines` says.
+    fn first_lines(&self, lines: &[u8]) -> Vec<f32> {
+        let (mut table, mut node) = (Vec::new(), vec![0; self.n]);
+        loop {
+            table.extend_from_slice(&self.table[expected::node_offset(self.used(), self.m, &node)..][..self.m]);
+            if !expected::advance(&mut node, lines) {
+                return table;
+            }
+        }
     }
 
     /// Plainer inputs and entries; entries by halves of the table, then by ever shorter stretches.

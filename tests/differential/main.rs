@@ -1,6 +1,6 @@
 //! The library against the oracle: the same calls to both, and every bit compared.
 //!
-//! Arguments: the number of random lookups (default 200,000), the seed (default 1), and `long` for larger sets.
+//! Arguments: the number of random lookups with equal sizes, and as many with unequal ones (default 200,000), the seed (default 1), and `long` for larger sets.
 //! Exit status 0 where all agree; 1 at the first difference, which is then reduced and printed in full.
 
 mod case;
@@ -10,6 +10,7 @@ mod down;
 mod elements;
 mod exhaustive;
 mod fixed;
+mod grids;
 mod huge;
 mod huge_cluts;
 mod huge_slabs;
@@ -22,6 +23,8 @@ mod nodes;
 mod random;
 mod skipped;
 mod slabs;
+mod strides;
+mod unequal;
 mod values;
 
 fn main() {
@@ -39,6 +42,7 @@ fn main() {
     skipped::codes();
     skipped::definition(rng);
     exhaustive::checked(run);
+    strides::rule(run);
     layouts::all(run, rng);
     cubes::weights(run);
     nodes::all(run, rng);
@@ -50,8 +54,8 @@ fn main() {
     if !values::SIGNALLING_LEFT_OUT {
         exhaustive::signalling(run, rng);
     }
-    random::lookups(run, rng, count);
-    random::damaged(run, rng, count / 2);
+    unequal::lookups(run, rng, long);
+    random::all(run, rng, count);
     cubes::cubes(run, rng, count / 4);
     elements::all(run, rng, long);
     huge::lookups(run, rng, long);

@@ -3,7 +3,7 @@
 #
 # Builds the library's archive for this machine (tests/native-staticlib), the oracle from the crate's Rust text
 # (RUST_TEXT, ../shared/docs/src beside the repository unless told otherwise) and the comparing program, and runs it:
-# some seconds; --long makes two million random lookups and larger sets. Needs rustc, and no network.
+# half a minute; --long makes two million random lookups of either sort (one size, unequal sizes) and larger sets. Needs rustc, and no network.
 # Where the Rust text is not there nothing is compared: it says so and exits with 0.
 # TENAHVAR_ARCHIVE=DIR compares DIR/libtenahvar.a instead of building one; SEED=N takes another seed.
 set -euo pipefail

@@ -98,7 +98,7 @@ pub fn special_inputs(g: u8) -> Vec<f32> {
 /// A random input of a random sort.
 pub fn random_input(rng: &mut Rng, g: u8) -> f32 {
     let scale = f32::from(g.max(2) - 1);
-    askable(match rng.below(12) {
+    askable(match rng.below(13) {
         0 => f32::from_bits(rng.pick(&SPECIAL)),
         1 => rng.bits(),
         2 => rng.below(256) as f32 / 255.0,
@@ -108,15 +108,17 @@ pub fn random_input(rng: &mut Rng, g: u8) -> f32 {
         6 => rng.pick(&[0.25, 0.5, 0.75, 0.125]),
         7 if g > 1 => skipping(g).first().copied().unwrap_or(1.0),
         8 if g > 1 => skipping(g).last().copied().unwrap_or(1.0),
+        // A weight that inks of other sizes may have too.
+        9 => (rng.below(scale as usize) as f32 + rng.pick(&[0.25, 0.5, 0.75])) / scale,
         _ => rng.unit(),
     })
 }
 
-/// Inputs for n inks; often several alike, so that weights tie.
-pub fn random_inputs(rng: &mut Rng, g: u8, inputs: &mut [f32]) {
+/// Inputs for inks of these sizes, which start over after the last; often several alike, so that weights tie.
+pub fn random_inputs(rng: &mut Rng, sizes: &[u8], inputs: &mut [f32]) {
     let alike = rng.one_in(4);
     for i in 0..inputs.len() {
-        inputs[i] = if alike && i > 0 && rng.one_in(2) { inputs[rng.below(i)] } else { random_input(rng, g) };
+        inputs[i] = if alike && i > 0 && rng.one_in(2) { inputs[rng.below(i)] } else { random_input(rng, sizes[i % sizes.len()]) };
     }
 }
 

@@ -31,8 +31,9 @@ static const uint8_t *sizes_of(uint8_t g, uint8_t second) {
 static const struct { uint8_t g, second; size_t n, m; uint32_t number; } layouts[] = {
     {2, 2, 0, 0, TENAHVAR_INPUT_INKS},      {2, 2, 16, 3, TENAHVAR_INPUT_INKS},   {2, 2, ((size_t)1 << 32) + 3, 3, TENAHVAR_INPUT_INKS},
     {0, 0, 3, 0, TENAHVAR_OUTPUT_INKS},     {2, 2, 3, 16, TENAHVAR_OUTPUT_INKS},  {2, 2, 3, ((size_t)1 << 32) + 3, TENAHVAR_OUTPUT_INKS},
-    {0, 2, 2, 1, TENAHVAR_ZERO_SIZE},       {2, 0, 2, 1, TENAHVAR_ZERO_SIZE},     {2, 3, 2, 1, TENAHVAR_UNEQUAL_SIZES},
-    {4, 4, 15, 4, TENAHVAR_LARGE_TOTAL},    {255, 255, 4, 2, TENAHVAR_LARGE_TOTAL}, {255, 255, 15, 15, TENAHVAR_LARGE_TOTAL},
+    {0, 2, 2, 1, TENAHVAR_ZERO_SIZE},       {2, 0, 2, 1, TENAHVAR_ZERO_SIZE},     {255, 0, 15, 15, TENAHVAR_ZERO_SIZE},
+    {4, 4, 15, 4, TENAHVAR_LARGE_TOTAL},    {255, 255, 4, 2, TENAHVAR_LARGE_TOTAL}, {255, 1, 5, 2, TENAHVAR_LARGE_TOTAL},
+    {4, 5, 15, 4, TENAHVAR_LARGE_TOTAL},    {255, 255, 15, 15, TENAHVAR_LARGE_TOTAL},
 };
 
 static void layout_calls(void) {
@@ -62,6 +63,46 @@ static void layout_calls(void) {
     EXPECT(tenahvar_layout(sizes_of(4, 4), 15, 3, strides, filling, scale) == TENAHVAR_DONE && filling[0] == 805306368);
     EXPECT(tenahvar_layout(sizes_of(255, 255), 4, 1, strides, filling, scale) == TENAHVAR_DONE && strides[0] == 16581375);
     EXPECT(tenahvar_layout(sizes_of(2, 0), 1, 1, strides, filling, scale) == TENAHVAR_DONE);
+}
+
+/* Document 02's example of sizes per ink (E5), a size of 1, and totals on both sides of the largest, 4,294,967,295; sizes past n do not count. */
+static void unequal_layouts(void) {
+    const uint8_t four[16] = {5, 1, 4, 2, 0, 255, 9}, large[16] = {127, 113, 215, 232, 6}, larger[16] = {127, 113, 215, 233, 6};
+    uint32_t strides[16], filling[16];
+    float scale[16];
+    EXPECT(tenahvar_layout(sizes_of(2, 3), 2, 4, strides, filling, scale) == TENAHVAR_DONE);
+    EXPECT(strides[0] == 3 && strides[1] == 1 && strides[2] == 1 && filling[0] == 12 && filling[1] == 4 && filling[2] == 1);
+    EXPECT(all(scale, 1, 1.0f) && all(scale + 1, 1, 2.0f) && all(scale + 2, 14, 0.0f));
+    EXPECT(tenahvar_layout(sizes_of(3, 2), 2, 1, strides, filling, scale) == TENAHVAR_DONE && strides[0] == 2 && strides[1] == 1);
+    EXPECT(tenahvar_layout(four, 4, 3, strides, filling, scale) == TENAHVAR_DONE);
+    EXPECT(strides[0] == 8 && strides[1] == 8 && strides[2] == 2 && strides[3] == 1 && strides[4] == 1);
+    EXPECT(filling[0] == 24 && filling[1] == 24 && filling[2] == 6 && filling[3] == 3 && filling[4] == 1);
+    EXPECT(all(scale, 1, 4.0f) && all(scale + 1, 1, 0.0f) && all(scale + 2, 1, 3.0f) && all(scale + 3, 1, 1.0f) && all(scale + 4, 12, 0.0f));
+    EXPECT(tenahvar_layout(large, 5, 1, strides, filling, scale) == TENAHVAR_DONE && filling[0] == 33818640);
+    EXPECT(tenahvar_layout(larger, 5, 1, strides, filling, scale) == TENAHVAR_LARGE_TOTAL);
+    EXPECT(tenahvar_layout(large, 5, 2, strides, filling, scale) == TENAHVAR_LARGE_TOTAL);
+}
+
+/* Entry e of a table is e, a linear function of the inks: a colour is the sum of p times the stride. A node stands at its number. */
+static void unequal_lookups(void) {
+    const uint8_t four[16] = {5, 1, 4, 2}, five[16] = {2, 2, 2, 3, 5};
+    const float two_inks[] = {0.5f, 0.25f}, four_inks[] = {0.625f, 0.5f, 1.0f, 0.5f}, five_inks[] = {0.5f, 0.5f, 0.5f, 0.25f, 0.125f};
+    const size_t last[] = {1, 2}, past_first[] = {2, 0}, past_second[] = {1, 3};
+    float table[120], answer[2];
+    size_t offset = 99;
+    for (int e = 0; e < 120; e++) table[e] = (float)e;
+    reset(answer, 2);
+    EXPECT(tenahvar_lookup(sizes_of(2, 3), 2, 1, table, 5, two_inks, 2, answer, 2) == TENAHVAR_SHORT_TABLE && all(answer, 2, UNTOUCHED));
+    EXPECT(tenahvar_lookup(sizes_of(2, 3), 2, 1, table, 6, two_inks, 2, answer, 2) == TENAHVAR_DONE && all(answer, 1, 2.0f));
+    EXPECT(tenahvar_lookup(sizes_of(3, 2), 2, 1, table, 6, two_inks, 2, answer, 2) == TENAHVAR_DONE && all(answer, 1, 2.25f));
+    EXPECT(tenahvar_lookup(four, 4, 1, table, 40, four_inks, 4, answer, 2) == TENAHVAR_DONE && all(answer, 1, 26.5f));
+    EXPECT(tenahvar_lookup(five, 5, 1, table, 119, five_inks, 5, answer, 2) == TENAHVAR_SHORT_TABLE && all(answer, 1, 26.5f));
+    EXPECT(tenahvar_lookup(five, 5, 1, table, 120, five_inks, 5, answer, 2) == TENAHVAR_DONE && all(answer, 1, 55.5f));
+    EXPECT(all(answer + 1, 1, UNTOUCHED));
+    EXPECT(tenahvar_node(sizes_of(2, 3), 2, 2, table, 12, past_first, 2, &offset) == TENAHVAR_OUTSIDE_GRID);
+    EXPECT(tenahvar_node(sizes_of(2, 3), 2, 2, table, 12, past_second, 2, &offset) == TENAHVAR_OUTSIDE_GRID && offset == 99);
+    EXPECT(tenahvar_node(sizes_of(2, 3), 2, 2, table, 12, last, 2, &offset) == TENAHVAR_DONE && offset == 10);
+    EXPECT(tenahvar_node(sizes_of(3, 2), 2, 2, table, 12, past_first, 2, &offset) == TENAHVAR_DONE && offset == 8);
 }
 
 /* Document 01's case 12 with the answer of document 02 (E4): just under line 1 ink 5 is blended with line 1 and not with line 2. */
@@ -142,7 +183,9 @@ static void cube_calls(cube_method *method, float colour) {
 
 int main(void) {
     layout_calls();
+    unequal_layouts();
     lookup_calls();
+    unequal_lookups();
     case_12();
     node_calls();
     weight_calls();

@@ -31,6 +31,13 @@ static int untouched_from(size_t first) {
     return 1;
 }
 
+/* The sizes are the element's first n, then zeros. */
+static int sizes_written(size_t n) {
+    for (size_t i = 0; i < 16; i++)
+        if (sizes[i] != (i < n ? element[i] : 0)) return 0;
+    return 1;
+}
+
 static int sizes_untouched(void) {
     for (int i = 0; i < 16; i++)
         if (sizes[i] != 0xA5) return 0;
@@ -51,7 +58,7 @@ static int refused(uint32_t number, size_t length, size_t n, size_t m, size_t ro
 
 /* A call is done, writes the sizes and the entries of the total, and nothing past it. */
 static int done(size_t length, size_t n, size_t m, size_t room, size_t total) {
-    if (call(length, n, m, room) != TENAHVAR_DONE || memcmp(sizes, element, 16) != 0) return 0;
+    if (call(length, n, m, room) != TENAHVAR_DONE || !sizes_written(n)) return 0;
     for (size_t e = 0; e < total; e++) {
         const uint8_t *at = element + HEAD + e * element[16];
         float right = element[16] == 1 ? (float)at[0] / 255.0f : (float)(at[0] * 256 + at[1]) / 65535.0f;
@@ -117,7 +124,6 @@ static void grids(void) {
     EXPECT(done(sizeof element, 2, 2, ROOM, 8));
     element[1] = 3;
     EXPECT(refused(TENAHVAR_ZERO_SIZE, sizeof element, 3, 2, ROOM));
-    EXPECT(refused(TENAHVAR_UNEQUAL_SIZES, sizeof element, 2, 2, ROOM));
     EXPECT(done(sizeof element, 1, 2, ROOM, 4));
     put(4, 2);
     EXPECT(refused(TENAHVAR_LARGE_TOTAL, sizeof element, 15, 4, ROOM));
@@ -130,7 +136,25 @@ static void grids(void) {
     EXPECT(refused(TENAHVAR_LARGE_TOTAL, sizeof element, 15, 15, ROOM));
 }
 
-/* Each fault stands with every later one: the first in the order 13, 1 to 5, 14, 15, 8 is told. */
+/* Sizes per ink: 2 * 3 * 5 entries of one output, none fewer. */
+static void unequal(void) {
+    put(9, 1);
+    memcpy(element, "\2\3\5", 3);
+    EXPECT(refused(TENAHVAR_SHORT_DATA, HEAD + 29, 3, 1, ROOM));
+    EXPECT(refused(TENAHVAR_SHORT_ANSWER, HEAD + 30, 3, 1, 29));
+    EXPECT(done(HEAD + 30, 3, 1, 30, 30));
+    EXPECT(done(HEAD + 12, 2, 2, ROOM, 12));
+    element[16] = 2;
+    EXPECT(refused(TENAHVAR_SHORT_DATA, HEAD + 59, 3, 1, ROOM));
+    EXPECT(done(HEAD + 60, 3, 1, ROOM, 30));
+    /* 2 * 128 * 128 * 128 * 128 * 8 is 2^32: a product of 32 bits would be 0. */
+    put(128, 2);
+    element[4] = 8;
+    EXPECT(refused(TENAHVAR_SHORT_DATA, sizeof element, 5, 1, ROOM));
+    EXPECT(refused(TENAHVAR_LARGE_TOTAL, sizeof element, 5, 2, ROOM));
+}
+
+/* Each fault stands with every later one: the first in the order 13, 1, 2, 3, 5, 14, 15, 8 is told. */
 static void order(void) {
     put(0, 7);
     EXPECT(refused(TENAHVAR_SHORT_ELEMENT, 19, 0, 0, 0));
@@ -143,7 +167,7 @@ static void order(void) {
     put(255, 7);
     EXPECT(refused(TENAHVAR_LARGE_TOTAL, 20, 15, 15, 0));
     element[1] = 254;
-    EXPECT(refused(TENAHVAR_UNEQUAL_SIZES, 20, 15, 15, 0));
+    EXPECT(refused(TENAHVAR_LARGE_TOTAL, 20, 15, 15, 0));
     put(2, 0);
     EXPECT(refused(TENAHVAR_PRECISION, 20, 2, 1, 0));
     put(2, 3);
@@ -177,6 +201,12 @@ static void looked_up(void) {
     for (int e = 0; e < 4; e++) element[HEAD + e] = (uint8_t)(e == 3 ? 255 : 0);
     EXPECT(done(HEAD + 4, 2, 1, 4, 4));
     EXPECT(tenahvar_lookup(sizes, 2, 1, entries, 4, inks, 2, &answer, 1) == TENAHVAR_DONE && same(answer, 0.125f));
+    /* Sizes 2 and 3, node (1, 1) alone is 1: ink 1 is halfway to its line 1, ink 2 as well. */
+    put(3, 1);
+    element[0] = 2;
+    for (int e = 0; e < 6; e++) element[HEAD + e] = (uint8_t)(e == 4 ? 255 : 0);
+    EXPECT(done(HEAD + 6, 2, 1, 6, 6));
+    EXPECT(tenahvar_lookup(sizes, 2, 1, entries, 6, inks, 2, &answer, 1) == TENAHVAR_DONE && same(answer, 0.25f));
 }
 
 int main(void) {
@@ -184,6 +214,7 @@ int main(void) {
     precisions();
     counts();
     grids();
+    unequal();
     order();
     values();
     looked_up();

@@ -1,15 +1,17 @@
-/* profile PRECISION TAG FILE: writes a small ICC profile with a table of 4 inks and 3 lights, 3 lines to an ink, as the tag TAG, A2B1 or A2B0.
+/* profile PRECISION TAG FILE: writes a small ICC profile with a table of 4 inks and 3 lights, 2 lines to yellow and 3 to the others, as the tag TAG, A2B1
+ * or A2B0.
  *
- * Red, green and blue at a node are 1 - 0.2 * (the line of cyan, of magenta, of yellow) - 0.2 * (the line of black), so that colours between the nodes
- * are 1 - 0.4 * ink - 0.4 * black: the inks 0.1 0.2 0.3 0.4 give 0.80 0.76 0.72. In one byte 0.2 is 51, in two it is 51 * 257, the same number.
+ * Red, green and blue are 1 - 0.4 * (cyan, magenta, yellow) - 0.4 * black, at the nodes and between them: the inks 0.1 0.2 0.3 0.4 give 0.80 0.76 0.72.
+ * From a line of an ink to its next that is 0.2 less, of yellow 0.4. In one byte 0.2 is 51, in two it is 51 * 257, the same number.
  * The padding of the CLUT and its sizes from the fifth on are not 0, and bytes follow after its data: they are all to be ignored.
  * There are no curves: the profile is for reading its table alone. */
 #include <stdint.h>
 #include <stdio.h>
 #include <string.h>
 
-enum { G = 3, N = 4, M = 3, NODES = 81, TAGS = 3, DUMMY = 132 + 12 * TAGS, DUMMY_SIZE = 40, TABLE = DUMMY + DUMMY_SIZE, CLUT = 32, AFTER = 5 };
+enum { N = 4, M = 3, NODES = 54, TAGS = 3, DUMMY = 132 + 12 * TAGS, DUMMY_SIZE = 40, TABLE = DUMMY + DUMMY_SIZE, CLUT = 32, AFTER = 5 };
 
+static const uint8_t sizes[N] = {3, 3, 2, 3};
 static uint8_t profile[1024];
 static size_t length;
 
@@ -35,13 +37,13 @@ static void tag(const char *signature, uint32_t offset, uint32_t size) {
 
 /* How much of the light a node leaves, in fifths. Black is the last ink and varies most rapidly. */
 static unsigned fifths(int node, int light) {
-    const int per_line[N] = {27, 9, 3, 1};
-    int ink = node / per_line[light] % G, black = node % G;
+    const int per_line[N] = {18, 6, 3, 1};
+    int ink = node / per_line[light] % sizes[light] * 2 / (sizes[light] - 1), black = node % 3;
     return (unsigned)(5 - ink - black);
 }
 
 static void clut(int precision) {
-    for (int i = 0; i < 16; i++) byte(i < N ? G : 200u + (unsigned)i);
+    for (int i = 0; i < 16; i++) byte(i < N ? sizes[i] : 200u + (unsigned)i);
     byte((unsigned)precision);
     for (int i = 0; i < 3; i++) byte(0xEE);
     for (int e = 0; e < NODES * M; e++) {

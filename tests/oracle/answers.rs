@@ -1,6 +1,7 @@
 //! Layouts and lookups as the crate's text gives them.
 
 use crate::conversions::md_lut::*;
+use crate::expected::Record;
 
 /// The three arrays of the crate's layout record.
 #[derive(Clone, Debug, PartialEq)]
@@ -10,9 +11,9 @@ pub struct Strides {
     pub grid_scale: [f32; 16],
 }
 
-/// The crate's record for an accepted layout: `new` panics or wraps on others.
-pub fn layout(g: u8, n: usize, m: usize) -> Strides {
-    let lut = MultidimensionalLut::new([g; 16], n, m);
+/// The crate's record for an accepted layout: `new` panics or wraps on others. With unequal sizes it has the crate's own strides, not ICC.1's.
+pub fn layout(sizes: [u8; 16], n: usize, m: usize) -> Strides {
+    let lut = MultidimensionalLut::new(sizes, n, m);
     Strides {
         grid_strides: lut.grid_strides,
         grid_filling_size: lut.grid_filling_size,
@@ -30,7 +31,20 @@ pub struct Lut {
 
 impl Lut {
     pub fn new(g: u8, n: usize, m: usize) -> Lut {
-        Lut { lut: MultidimensionalLut::new([g; 16], n, m), call: call(n, m) }
+        Lut::of_sizes([g; 16], n, m)
+    }
+
+    /// The crate takes unequal sizes too, by its own strides.
+    pub fn of_sizes(sizes: [u8; 16], n: usize, m: usize) -> Lut {
+        Lut { lut: MultidimensionalLut::new(sizes, n, m), call: call(n, m) }
+    }
+
+    /// The crate's lookup over the rows of a record, which has ICC.1's strides with unequal sizes too.
+    fn of_record(record: &Record) -> Lut {
+        let row = |from: usize| std::array::from_fn(|ink| record[from + ink]);
+        let (n, m) = (record[64] as usize, record[65] as usize);
+        let lut = MultidimensionalLut { grid_strides: row(0), grid_filling_size: row(16), grid_scale: row(32).map(f32::from_bits), output_inks: m };
+        Lut { lut, call: call(n, m) }
     }
 
     /// The crate's answer at exactly these inputs, in the first m entries of `answer`.
@@ -48,9 +62,18 @@ fn zero_unsigned(input: f32) -> f32 {
 
 /// The crate's m answers for an accepted call: n 1..15, m 1..15, a table of at least gⁿ·m entries, n inputs.
 pub fn rust_lookup(g: u8, n: usize, m: usize, table: &[f32], inputs: &[f32]) -> Vec<f32> {
+    answers(&Lut::new(g, n, m), m, table, inputs)
+}
+
+/// What the crate's lookup answers for an accepted record where its own strides do not count: its cells and its blending.
+pub fn rust_blend(record: &Record, table: &[f32], inputs: &[f32]) -> Vec<f32> {
+    answers(&Lut::of_record(record), record[65] as usize, table, inputs)
+}
+
+fn answers(lut: &Lut, m: usize, table: &[f32], inputs: &[f32]) -> Vec<f32> {
     let inputs: Vec<f32> = inputs.iter().map(|&x| zero_unsigned(x)).collect();
     let mut answer = vec![0.0; m];
-    Lut::new(g, n, m).lookup(table, &inputs, &mut answer);
+    lut.lookup(table, &inputs, &mut answer);
     answer
 }
 

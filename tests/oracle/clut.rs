@@ -1,4 +1,4 @@
-//! CLUT elements in document 02's own words (E2). The crate's own reading multiplies by a rounded reciprocal and refuses other things, so nothing of it is used here.
+//! CLUT elements in document 02's own words (E2, E5). The crate's own reading multiplies by a rounded reciprocal and refuses other things, so nothing of it is used here.
 
 use crate::expected::{self, Record};
 
@@ -15,7 +15,7 @@ pub fn sizes(element: &[u8]) -> Option<[u8; 16]> {
     element.get(..16)?.try_into().ok()
 }
 
-/// Order: 13, 1 to 5, 14, 15, then 8.
+/// Order: 13, the layout's, 14, 15, then 8.
 pub fn number(element: &[u8], n: usize, m: usize, room: usize) -> u32 {
     let (Some(sizes), Some(data)) = (sizes(element), element.get(20..)) else {
         return 13; // element under 20 bytes
@@ -24,7 +24,7 @@ pub fn number(element: &[u8], n: usize, m: usize, room: usize) -> u32 {
     if refused != 0 {
         return refused;
     }
-    let total = expected::total(sizes[0], n, m);
+    let total = expected::total(&sizes[..n], m);
     let needed = match element[16] {
         1 => total,
         2 => total * 2,
@@ -50,10 +50,10 @@ fn values(element: &[u8], total: usize) -> Vec<f32> {
 
 /// Reads an element into a buffer that held `old`: the first total entries are set, no others.
 pub fn read(element: &[u8], n: usize, m: usize, old: &[f32]) -> Read {
-    let mut read = Read { number: number(element, n, m, old.len()), record: [0; 51], entries: old.to_vec() };
+    let mut read = Read { number: number(element, n, m, old.len()), record: [0; 66], entries: old.to_vec() };
     if let (0, Some(sizes)) = (read.number, sizes(element)) {
         read.record = expected::record(&sizes, n, m);
-        let total = expected::total(sizes[0], n, m) as usize;
+        let total = expected::total(&sizes[..n], m) as usize;
         read.entries[..total].copy_from_slice(&values(element, total));
     }
     read

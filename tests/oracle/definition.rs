@@ -1,5 +1,6 @@
-//! A lookup in the words of document 01, with document 02's upper node (E4), over coordinates. Nothing here is taken from the crate: it is the
-//! oracle where demand 2 leaves the crate's text out. Every product, sum and difference is rounded once, in the order written.
+//! A lookup in the words of document 01, with document 02's upper node (E4) and a size for each ink (E5), over coordinates. Nothing here is taken from
+//! the crate: it is the oracle where demand 2 leaves the crate's text out and where sizes are unequal. Every product, sum and difference is rounded
+//! once, in the order written.
 
 use crate::Cell;
 
@@ -14,16 +15,17 @@ fn clip(x: f32) -> f32 {
     }
 }
 
-/// p: the clipped input times g−1, rounded.
-pub fn product(g: u8, x: f32) -> f32 {
-    clip(x) * f32::from(g - 1)
+/// p: the clipped input times the ink's size less 1, rounded.
+pub fn product(size: u8, x: f32) -> f32 {
+    clip(x) * f32::from(size - 1)
 }
 
-/// The cell of an ink, counted from 1: inks 1 to 4 have p rounded up for the upper node, later ones the lower node plus one, but never past g−1.
-fn cell(ink: usize, g: u8, x: f32) -> Cell {
-    let p = product(g, x);
+/// The cell of an ink, counted from 1: inks 1 to 4 have p rounded up for the upper node, later ones the lower node plus one, but never
+/// past the last line.
+fn cell(ink: usize, size: u8, x: f32) -> Cell {
+    let p = product(size, x);
     let lower = p as usize;
-    let upper = if ink <= 4 { p.ceil() as usize } else { (lower + 1).min(g as usize - 1) };
+    let upper = if ink <= 4 { p.ceil() as usize } else { (lower + 1).min(size as usize - 1) };
     Cell { x: lower, x_n: upper, w: p - lower as f32 }
 }
 

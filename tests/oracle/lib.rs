@@ -3,7 +3,7 @@
 //! rounded once, in the order written, and nothing is fused.
 //!
 //! `rust_lookup`, `layout`, `weights`, `pyramidal`, `prismatic` and `trilinear` give the crate's answers for accepted calls. `lookup` gives
-//! what the library owes: the crate's answers, and where demand 2 leaves those out the answers of `definition`.
+//! what the library owes: the crate's answers, and where demand 2 leaves those out, or sizes are unequal, the answers of `definition`.
 //! The refusals are not the crate's: `expected` has them, in the words of document 01's table; `clut` has document 02's CLUT elements and `slab` its slabs.
 
 mod answers;
@@ -17,9 +17,9 @@ mod sizes;
 pub mod slab;
 mod weights;
 
-pub use answers::{layout, rust_lookup, Lut, Strides};
+pub use answers::{layout, rust_blend, rust_lookup, Lut, Strides};
 pub use cubes::{prismatic, pyramidal, trilinear, CUBE_SIZES};
-pub use demand::{excepted, lookup, parted, passes, same, skips};
+pub use demand::{excepted, lookup, one_size, parted, passes, same, skips};
 pub use weights::weights;
 
 /// One axis of a cell: lower node, upper node and weight.

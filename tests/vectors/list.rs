@@ -1,7 +1,11 @@
 //! The list of cases as text: what `replay` reads and what it should write. README.md has the format.
 
-use oracle::{expected, Cell};
+use crate::grids::padded;
+use oracle::{expected, one_size, Cell};
 use std::fmt::Write;
+
+/// The longest list that `replay` has room for, in bytes.
+pub const TEXT: usize = 1 << 20;
 
 /// The largest table that `replay` has room for.
 pub const ROOM: usize = 40_000;
@@ -72,10 +76,10 @@ impl Table {
     }
 }
 
-/// A record as one asks for it: laid out from g, n, m, and then place D set to V.
+/// A record as one asks for it: laid out from sixteen sizes, n and m, and then place D set to V.
 #[derive(Clone, Copy)]
 pub struct Asked {
-    pub g: u8,
+    pub sizes: [u8; 16],
     pub n: u32,
     pub m: u32,
     pub place: u32,
@@ -83,20 +87,30 @@ pub struct Asked {
 }
 
 impl Asked {
-    pub fn whole(g: u8, n: usize, m: usize) -> Asked {
-        Asked { g, n: n as u32, m: m as u32, place: NO_PLACE, value: 0 }
+    /// These sizes in use, and after them the first one again.
+    pub fn whole(used: &[u8], m: usize) -> Asked {
+        Asked::of_counts(padded(used), used.len(), m)
+    }
+
+    pub fn of_counts(sizes: [u8; 16], n: usize, m: usize) -> Asked {
+        Asked { sizes, n: n as u32, m: m as u32, place: NO_PLACE, value: 0 }
     }
 
     fn record(&self) -> expected::Record {
-        let mut record = expected::record(&[self.g; 16], self.n as usize, self.m as usize);
+        let mut record = expected::record(&self.sizes, self.n as usize, self.m as usize);
         if let Some(word) = record.get_mut(self.place as usize) {
-            *word = if self.place == 48 { self.value & 0xFF } else { plain(self.value) };
+            *word = if (48..64).contains(&self.place) { self.value & 0xFF } else { self.value() };
         }
         record
     }
 
-    fn words(&self) -> [u32; 5] {
-        [self.g as u32, self.n, self.m, self.place, plain(self.value)]
+    /// V; a scale's is the bits of a float.
+    fn value(&self) -> u32 {
+        if (32..48).contains(&self.place) { plain(self.value) } else { self.value }
+    }
+
+    fn words(&self) -> Vec<u32> {
+        self.sizes.map(u32::from).into_iter().chain([self.n, self.m, self.place, self.value()]).collect()
     }
 }
 
@@ -109,6 +123,8 @@ pub struct List {
     pub entries: usize,
     /// How many lookups demand 2 excepts (E4), and in how many of them the crate's answers are others.
     pub excepted: [usize; 2],
+    /// How many cases of each kind have a record with unequal sizes.
+    pub unequal: [usize; 12],
 }
 
 impl List {
@@ -122,8 +138,13 @@ impl List {
     /// A line of the number in decimal and the words in hex.
     fn answers(&mut self, number: Option<u32>, words: impl IntoIterator<Item = u32>) {
         let number = number.map(|k| k.to_string());
-        let words: Vec<String> = number.into_iter().chain(words.into_iter().map(|w| format!("{:08X}", plain(w)))).collect();
+        let words: Vec<String> = number.into_iter().chain(words.into_iter().map(|w| format!("{w:08X}"))).collect();
         writeln!(self.stdout, "{}", words.join(" ")).expect("text");
+    }
+
+    /// Counts a case to its kind where the record is one that a layout with unequal sizes gives.
+    fn count_unequal(&mut self, kind: usize, record: &expected::Record) {
+        self.unequal[kind] += usize::from(expected::accepted(record).is_some_and(|(sizes, _)| one_size(&sizes).is_none()));
     }
 
     /// The answer buffer beforehand: small subnormals, another at each place.
@@ -138,17 +159,18 @@ impl List {
         self.asks(1, &[&asked.words(), &text, &[inputs.len() as u32], &inputs, &[answer as u32], &buffer]);
         let (entries, record) = (table.entries(), asked.record());
         self.entries += entries.len();
+        self.count_unequal(1, &record);
         assert!(entries.len() <= ROOM);
         let number = expected::record_lookup(&record, entries.len(), inputs.len(), answer);
         if number == 0 {
-            let (g, n, m) = expected::accepted(&record).expect("an accepted record");
+            let (sizes, m) = expected::accepted(&record).expect("an accepted record");
             let inputs: Vec<f32> = inputs.iter().map(|&b| f32::from_bits(b)).collect();
-            if let Some(parted) = oracle::parted(g, n, m, &entries, &inputs) {
+            if let Some(parted) = oracle::parted(&sizes, m, &entries, &inputs) {
                 self.excepted[0] += 1;
                 self.excepted[1] += usize::from(parted);
             }
-            for (o, a) in oracle::lookup(g, n, m, &entries, &inputs).iter().enumerate() {
-                buffer[o] = a.to_bits();
+            for (o, a) in oracle::lookup(&sizes, m, &entries, &inputs).iter().enumerate() {
+                buffer[o] = plain(a.to_bits());
             }
         }
         self.answers(Some(number), buffer);
@@ -157,7 +179,9 @@ impl List {
     /// 2: a layout.
     pub fn layout(&mut self, sizes: &[u8; 16], n: u32, m: u32) {
         self.asks(2, &[&sizes.map(u32::from), &[n, m]]);
-        self.answers(Some(expected::layout(sizes, n as usize, m as usize)), expected::record(sizes, n as usize, m as usize));
+        let record = expected::record(sizes, n as usize, m as usize);
+        self.count_unequal(2, &record);
+        self.answers(Some(expected::layout(sizes, n as usize, m as usize)), record);
     }
 
     /// 3: a node.
@@ -165,15 +189,16 @@ impl List {
         self.asks(3, &[&asked.words(), &table.text(), &[coordinates.len() as u32], coordinates]);
         let (entries, record) = (table.entries(), asked.record());
         self.entries += entries.len();
+        self.count_unequal(3, &record);
         let coordinates: Vec<usize> = coordinates.iter().map(|&k| k as usize).collect();
         let number = expected::record_node(&record, entries.len(), &coordinates);
         let part = if number == 0 {
-            let (g, _, m) = expected::accepted(&record).expect("an accepted record");
-            entries[expected::node_offset(g, m, &coordinates)..][..m].to_vec()
+            let (sizes, m) = expected::accepted(&record).expect("an accepted record");
+            entries[expected::node_offset(&sizes, m, &coordinates)..][..m].to_vec()
         } else {
             Vec::new()
         };
-        self.answers(Some(number), part.iter().map(|e| e.to_bits()));
+        self.answers(Some(number), part.iter().map(|e| plain(e.to_bits())));
     }
 
     /// The oracle's weights; zeros where they are refused.
@@ -214,7 +239,7 @@ impl List {
             let cells = [0, 1, 2].map(|i| Cell { x: x[i], x_n: x_n[i], w: f32::from_bits(weights[i]) });
             let method = [oracle::pyramidal, oracle::prismatic, oracle::trilinear][kind as usize - 6];
             for (o, a) in method(&cells, g, m as usize, &entries).iter().enumerate() {
-                buffer[o] = a.to_bits();
+                buffer[o] = plain(a.to_bits());
             }
         }
         self.answers(Some(number), buffer);
@@ -234,7 +259,8 @@ impl List {
         assert!(old.entries().len() <= BUFFER);
         let read = oracle::clut::read(element, n as usize, m as usize, &old.entries());
         self.entries += read.entries.len();
-        self.answers(Some(read.number), read.record.into_iter().chain(read.entries.iter().map(|e| e.to_bits())));
+        self.count_unequal(10, &read.record);
+        self.answers(Some(read.number), read.record.into_iter().chain(read.entries.iter().map(|e| plain(e.to_bits()))));
     }
 
     /// 11: a slab, into a buffer with old contents. The record is listed place by place.
@@ -242,13 +268,14 @@ impl List {
         self.asks(11, &[record, &table.text(), &[j, k], &old.text()]);
         let (entries, mut buffer) = (table.entries(), old.entries());
         self.entries += entries.len() + buffer.len();
+        self.count_unequal(11, record);
         assert!(entries.len() <= ROOM);
         assert!(buffer.len() <= SLAB);
         let (j, k) = (j as usize, k as usize);
         let number = oracle::slab::record_number(record, entries.len(), j, k, buffer.len());
         if number == 0 {
-            let (g, n, m) = expected::accepted(record).expect("an accepted record");
-            let slab = oracle::slab::entries(g, n, m, &entries, j, k);
+            let (sizes, m) = expected::accepted(record).expect("an accepted record");
+            let slab = oracle::slab::entries(&sizes, m, &entries, j, k);
             buffer[..slab.len()].copy_from_slice(&slab);
         }
         self.answers(Some(number), buffer.iter().map(|e| e.to_bits()));

@@ -1,45 +1,47 @@
 //! The lookups and nodes of the list.
 
+use crate::grids::equal;
 use crate::list::{Asked, List, Table, ROOM};
 use crate::values::{fill_table, random_input, random_inputs, skipping, special_inputs, Rng, ENTRIES};
 use oracle::expected;
 
-fn total(g: u8, n: usize, m: usize) -> usize {
-    expected::total(g, n, m) as usize
+pub fn total(sizes: &[u8], m: usize) -> usize {
+    expected::total(sizes, m) as usize
 }
 
 /// The largest size whose table has at most `bound` entries.
 fn largest(n: usize, m: usize, bound: usize) -> u8 {
-    (1..=255).take_while(|&g| total(g, n, m) <= bound).last().unwrap_or(1)
+    (1..=255).take_while(|&g| total(&equal(g, n), m) <= bound).last().unwrap_or(1)
 }
 
 /// A table by seed, shares or any bits in turn.
-fn seeded(rng: &mut Rng, len: usize) -> Table {
+pub fn seeded(rng: &mut Rng, len: usize) -> Table {
     let seed = rng.next() as u32;
     if rng.one_in(2) { Table::Shares(len, seed) } else { Table::Bits(len, seed) }
 }
 
 /// A table of special entries, word by word.
-fn special(rng: &mut Rng, len: usize) -> Table {
+pub fn special(rng: &mut Rng, len: usize) -> Table {
     Table::Words((0..len).map(|_| rng.pick(&ENTRIES)).collect())
 }
 
-fn good(list: &mut List, g: u8, m: usize, table: &Table, inputs: &[f32], more: usize) {
-    list.lookup(Asked::whole(g, inputs.len(), m), table, inputs, m + more);
+/// A lookup with these sizes in use and a buffer of m entries and some more.
+pub fn good(list: &mut List, sizes: &[u8], m: usize, table: &Table, inputs: &[f32], more: usize) {
+    list.lookup(Asked::whole(sizes, m), table, inputs, m + more);
 }
 
 /// Document 01's cases P6, P7, P8 and 12, the last with the answer 0 of document 02's E4.
 pub fn checked(list: &mut List) {
     let ones = |len: usize, place: usize| Table::Words((0..len).map(|i| if i == place { 0x3F80_0000 } else { 0 }).collect());
     for input in [0.25, f32::NAN, 2.0] {
-        good(list, 2, 1, &ones(2, 1), &[input], 0);
+        good(list, &[2], 1, &ones(2, 1), &[input], 0);
     }
-    good(list, 2, 1, &Table::Words([0.0f32, 1.0, 2.0, 3.0].map(f32::to_bits).to_vec()), &[0.5, 0.25], 0);
-    good(list, 2, 1, &ones(8, 7), &[0.5, 0.25, 0.75], 0);
+    good(list, &[2, 2], 1, &Table::Words([0.0f32, 1.0, 2.0, 3.0].map(f32::to_bits).to_vec()), &[0.5, 0.25], 0);
+    good(list, &[2; 3], 1, &ones(8, 7), &[0.5, 0.25, 0.75], 0);
     let ink_5 = f32::from_bits(0x3EFF_FFFF);
-    good(list, 3, 1, &ones(243, 2), &[0.0, 0.0, 0.0, 0.0, ink_5], 0);
+    good(list, &[3; 5], 1, &ones(243, 2), &[0.0, 0.0, 0.0, 0.0, ink_5], 0);
     // Ink 4 of five takes the next line too at this product.
-    good(list, 3, 1, &ones(243, 6), &[0.0, 0.0, 0.0, ink_5, 0.0], 0);
+    good(list, &[3; 5], 1, &ones(243, 6), &[0.0, 0.0, 0.0, ink_5, 0.0], 0);
 }
 
 /// Every n and m, with a small grid and, where it fits, a larger one.
@@ -51,16 +53,16 @@ pub fn every_count(list: &mut List, rng: &mut Rng) {
                 let most = largest(n, m, bound) as usize;
                 let g = rng.within(most.min(2), most) as u8;
                 let (longer, more) = (rng.pick(&[0, 0, 3]), rng.pick(&[0, 0, 1, 4]));
-                let table = seeded(rng, total(g, n, m) + longer);
-                random_inputs(rng, g, &mut inputs);
-                good(list, g, m, &table, &inputs, more);
+                let table = seeded(rng, total(&equal(g, n), m) + longer);
+                random_inputs(rng, &[g], &mut inputs);
+                good(list, &equal(g, n), m, &table, &inputs, more);
             }
         }
     }
     // Fifteen inks on two lines: the largest count that fits.
     for _ in 0..4 {
         let inputs: Vec<f32> = (0..15).map(|_| rng.unit()).collect();
-        good(list, 2, 1, &Table::Shares(32_768, rng.next() as u32), &inputs, 0);
+        good(list, &[2; 15], 1, &Table::Shares(32_768, rng.next() as u32), &inputs, 0);
     }
 }
 
@@ -69,7 +71,7 @@ pub fn special_values(list: &mut List, rng: &mut Rng) {
     for g in [1, 2, 3, 4, 5, 17, 33, 66, 130, 255] {
         for (i, input) in special_inputs(g).into_iter().enumerate() {
             let table = if g < 4 && i % 2 == 0 { special(rng, g as usize) } else { seeded(rng, g as usize) };
-            good(list, g, 1, &table, &[input], i % 3);
+            good(list, &[g], 1, &table, &[input], i % 3);
         }
     }
     for n in 2..=7 {
@@ -80,8 +82,9 @@ pub fn special_values(list: &mut List, rng: &mut Rng) {
             for i in 0..n {
                 inputs[i] = if i > 0 && rng.one_in(3) { inputs[i - 1] } else { rng.pick(&values) };
             }
-            let table = if n < 4 && rng.one_in(2) { special(rng, total(g, n, 1)) } else { seeded(rng, total(g, n, 1)) };
-            good(list, g, 1, &table, &inputs, 0);
+            let (sizes, all) = (equal(g, n), total(&equal(g, n), 1));
+            let table = if n < 4 && rng.one_in(2) { special(rng, all) } else { seeded(rng, all) };
+            good(list, &sizes, 1, &table, &inputs, 0);
         }
     }
     // Ordinary inputs on tables of shares: three to six inks, where rounding shows the order of the steps.
@@ -89,8 +92,8 @@ pub fn special_values(list: &mut List, rng: &mut Rng) {
         let (n, m) = (3 + i % 4, 1 + i % 3);
         let g = rng.within(2, largest(n, m, 2_500) as usize) as u8;
         let mut inputs = vec![0.0; n];
-        random_inputs(rng, g, &mut inputs);
-        good(list, g, m, &Table::Shares(total(g, n, m), rng.next() as u32), &inputs, 0);
+        random_inputs(rng, &[g], &mut inputs);
+        good(list, &equal(g, n), m, &Table::Shares(total(&equal(g, n), m), rng.next() as u32), &inputs, 0);
     }
 }
 
@@ -98,10 +101,10 @@ pub fn special_values(list: &mut List, rng: &mut Rng) {
 pub fn signed_zeros(list: &mut List, rng: &mut Rng) {
     for n in 1..=5 {
         for _ in 0..16 {
-            let words = (0..total(2, n, 1)).map(|_| rng.pick(&[0, 0x8000_0000, 0x8000_0000, 0x3F80_0000, 0xBF80_0000]));
+            let words = (0..total(&equal(2, n), 1)).map(|_| rng.pick(&[0, 0x8000_0000, 0x8000_0000, 0x3F80_0000, 0xBF80_0000]));
             let table = Table::Words(words.collect());
             let inputs: Vec<f32> = (0..n).map(|_| rng.pick(&[-0.0, -0.0, 0.0, 1.0, 0.5])).collect();
-            good(list, 2, 1, &table, &inputs, 0);
+            good(list, &equal(2, n), 1, &table, &inputs, 0);
         }
     }
 }
@@ -117,7 +120,7 @@ pub fn skips(list: &mut List, rng: &mut Rng) {
                 for ink in 0..n {
                     let mut inputs: Vec<f32> = (0..n).map(|_| random_input(rng, g)).collect();
                     inputs[ink] = skipping(g)[power];
-                    good(list, g, 1, &Table::Shares(total(g, n, 1), rng.next() as u32), &inputs, 0);
+                    good(list, &equal(g, n), 1, &Table::Shares(total(&equal(g, n), 1), rng.next() as u32), &inputs, 0);
                 }
             }
         }
@@ -127,53 +130,65 @@ pub fn skips(list: &mut List, rng: &mut Rng) {
 /// Table, inputs and buffer at and around their limits, with a whole record and with a damaged one.
 pub fn limits(list: &mut List, rng: &mut Rng) {
     for (g, n, m) in [(1, 1, 1), (2, 1, 15), (3, 2, 2), (2, 3, 4), (2, 4, 3), (2, 5, 1), (1, 15, 15), (2, 9, 2)] {
-        let mut inputs = vec![0.0; 17];
-        random_inputs(rng, g, &mut inputs);
-        let (whole, all) = (Asked::whole(g, n, m), total(g, n, m));
-        for asked in [whole, Asked { place: 40, value: 0x8000_0000, ..whole }] {
-            for table in [all - 1, all, all + 1, 0] {
-                for count in [n - 1, n, n + 1] {
-                    for answer in [m - 1, m, m + 2] {
-                        if table == all || count == n || answer == m || asked.place == 40 && table == 0 {
-                            list.lookup(asked, &seeded(rng, table), &inputs[..count], answer);
-                        }
+        around(list, rng, &equal(g, n), m);
+    }
+    // A refused layout leaves the zero record, which is refused 9.
+    for (g, n, m) in [(2, 0, 1), (2, 16, 1), (2, 3, 0), (2, 3, 16), (0, 3, 3), (255, 5, 1), (4, 15, 4)] {
+        let asked = Asked::of_counts([g; 16], n, m);
+        list.lookup(asked, &Table::Shares(100, 1), &[0.5; 3], 3);
+        list.node(asked, &Table::Shares(100, 1), &[0; 3]);
+    }
+}
+
+/// One layout with every choice of short, exact and long table, inputs and buffer where at most one of them is wrong, and some more.
+pub fn around(list: &mut List, rng: &mut Rng, sizes: &[u8], m: usize) {
+    let mut inputs = vec![0.0; 17];
+    random_inputs(rng, sizes, &mut inputs);
+    let (whole, n, all) = (Asked::whole(sizes, m), sizes.len(), total(sizes, m));
+    for asked in [whole, Asked { place: 40, value: 0x8000_0000, ..whole }] {
+        for table in [all - 1, all, all + 1, 0] {
+            for count in [n - 1, n, n + 1] {
+                for answer in [m - 1, m, m + 2] {
+                    if table == all || count == n || answer == m || asked.place == 40 && table == 0 {
+                        list.lookup(asked, &seeded(rng, table), &inputs[..count], answer);
                     }
                 }
             }
         }
     }
-    // A refused layout leaves the zero record, which is refused 9.
-    for (g, n, m) in [(2, 0, 1), (2, 16, 1), (2, 3, 0), (2, 3, 16), (0, 3, 3), (255, 5, 1), (4, 15, 4)] {
-        list.lookup(Asked::whole(g, n, m), &Table::Shares(100, 1), &[0.5; 3], 3);
-        list.node(Asked::whole(g, n, m), &Table::Shares(100, 1), &[0; 3]);
+}
+
+/// Every place of a record damaged: another bit, zero, one more, −0.0, NaN; and the value that it has.
+pub fn damaged(list: &mut List, rng: &mut Rng) {
+    for (g, n, m) in [(3, 4, 3), (2, 1, 1), (1, 3, 1), (2, 10, 2)] {
+        each_place(list, rng, &equal(g, n), m);
+    }
+    // A grid of size 1 with one output: another n leaves the other rows as they are, but not the sizes.
+    for n in [0, 1, 2, 5, 15, 16, u32::MAX] {
+        for count in [2, 5] {
+            list.lookup(Asked { place: 64, value: n, ..Asked::whole(&[1, 1], 1) }, &Table::Shares(1, 9), &vec![0.5; count], 1);
+        }
     }
 }
 
-/// Every place of a record damaged: another bit, zero, one more, −0.0, NaN, and the value that it has.
-pub fn damaged(list: &mut List, rng: &mut Rng) {
-    for (g, n, m) in [(3, 4, 3), (2, 1, 1), (1, 3, 1), (2, 10, 2)] {
-        let right = expected::record(&[g; 16], n, m);
-        let mut inputs = vec![0.0; n];
-        random_inputs(rng, g, &mut inputs);
-        let table = seeded(rng, total(g, n, m));
-        for place in 0..51 {
-            let value = right[place as usize];
-            let mut values = vec![value ^ 1 << rng.below(32), value.wrapping_add(1)];
-            values.push(if (32..48).contains(&place) { rng.pick(&[0x8000_0000, 0x7FC0_0000, 0x7F80_0000]) } else { 0 });
-            values.push(value);
-            for value in values.into_iter().skip(if n == 10 { 2 } else { 0 }) {
-                let asked = Asked { place, value, ..Asked::whole(g, n, m) };
-                list.lookup(asked, &table, &inputs, m);
-            }
-            let coordinates = vec![0; n];
-            list.node(Asked { place, value: value ^ 1 << rng.below(8), ..Asked::whole(g, n, m) }, &table, &coordinates);
+/// Each place of a record set to another value: to two sorts of values, of four and five inks to four.
+pub fn each_place(list: &mut List, rng: &mut Rng, sizes: &[u8], m: usize) {
+    let (whole, n) = (Asked::whole(sizes, m), sizes.len());
+    let right = expected::record(&whole.sizes, n, m);
+    let mut inputs = vec![0.0; n];
+    random_inputs(rng, sizes, &mut inputs);
+    let table = seeded(rng, total(sizes, m));
+    for place in 0..right.len() as u32 {
+        let value = right[place as usize];
+        // Of a size only the low byte is taken.
+        let bits = if (48..64).contains(&place) { 8 } else { 32 };
+        let mut values = vec![value ^ 1 << rng.below(bits), value.wrapping_add(1)];
+        values.push(if (32..48).contains(&place) { rng.pick(&[0x8000_0000, 0x7FC0_0000, 0x7F80_0000]) } else { 0 });
+        values.push(value);
+        for value in values.into_iter().skip(if n == 4 || n == 5 { 0 } else { 2 }) {
+            list.lookup(Asked { place, value, ..whole }, &table, &inputs, m);
         }
-    }
-    // A grid of size 1 with one output: another n is another accepted record.
-    for n in [0, 1, 2, 5, 15, 16, u32::MAX] {
-        for count in [2, 5] {
-            list.lookup(Asked { place: 49, value: n, ..Asked::whole(1, 2, 1) }, &Table::Shares(1, 9), &vec![0.5; count], 1);
-        }
+        list.node(Asked { place, value: value ^ 1 << rng.below(8), ..whole }, &table, &vec![0; n]);
     }
 }
 
@@ -182,7 +197,7 @@ pub fn nodes(list: &mut List, rng: &mut Rng) {
     for n in 1..=15 {
         for m in [1, 2, 3, 4, 15] {
             let g = largest(n, m, 2_000).min(rng.within(2, 9) as u8).max(1);
-            let (whole, all) = (Asked::whole(g, n, m), total(g, n, m));
+            let (whole, all) = (Asked::whole(&equal(g, n), m), total(&equal(g, n), m));
             let longer = rng.below(2);
             let table = seeded(rng, all + longer);
             let node: Vec<u32> = (0..n).map(|_| rng.below(g as usize) as u32).collect();
@@ -200,5 +215,5 @@ pub fn nodes(list: &mut List, rng: &mut Rng) {
     }
     let mut words = vec![0.0; 27];
     fill_table(rng, &mut words);
-    list.node(Asked::whole(3, 3, 1), &Table::Words(words.iter().map(|x| x.to_bits()).collect()), &[2, 1, 0]);
+    list.node(Asked::whole(&[3; 3], 1), &Table::Words(words.iter().map(|x| x.to_bits()).collect()), &[2, 1, 0]);
 }

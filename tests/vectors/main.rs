@@ -2,10 +2,14 @@
 //! the numbers document 01's. The same files come out on every machine. Without a lookup that shows E4's difference from the crate it ends.
 
 mod cluts;
+#[allow(dead_code)]
+#[path = "../differential/grids.rs"]
+mod grids;
 mod list;
 mod lookups;
 mod others;
 mod slabs;
+mod unequal;
 #[allow(dead_code)]
 #[path = "../differential/values.rs"]
 mod values;
@@ -21,6 +25,7 @@ fn main() {
     lookups::limits(list, rng);
     lookups::damaged(list, rng);
     lookups::nodes(list, rng);
+    unequal::all(list, rng);
     others::layouts(list, rng);
     others::weights(list, rng);
     others::cubes(list, rng);
@@ -29,12 +34,15 @@ fn main() {
     list.stdin.push_str("0\n");
     std::fs::write(format!("{folder}/stdin"), &list.stdin).expect("stdin is written");
     std::fs::write(format!("{folder}/stdout"), &list.stdout).expect("stdout is written");
+    assert!(list.stdin.len() <= list::TEXT, "the list is longer than replay's room for it");
     let names = ["", "lookups", "layouts", "nodes", "weights", "sizes' weights", "pyramids", "prisms", "trilinears", "constant's entries", "CLUTs", "slabs"];
     let told: Vec<String> = (1..12).map(|k| format!("{} {}", list.counts[k], names[k])).collect();
     println!(
         "vectors: {} cases ({}); stdin {} bytes, stdout {} bytes, {} table entries in all",
         list.counts.iter().sum::<usize>(), told.join(", "), list.stdin.len(), list.stdout.len(), list.entries
     );
+    let unequal: Vec<String> = [1, 2, 3, 10, 11].map(|k| format!("{} {}", list.unequal[k], names[k])).into();
+    println!("vectors: with unequal sizes (E5): {}", unequal.join(", "));
     let [excepted, parted] = list.excepted;
     println!("vectors: {excepted} lookups are excepted from demand 2 (E4); in {parted} of them the Rust text answers otherwise");
     assert!(parted > 0, "no stored lookup shows the upper node of E4");

@@ -1,10 +1,11 @@
 //! The layouts, weights and cubes of the list.
 
+use crate::grids::{laid, of_counts, Sizes};
 use crate::list::{List, Table};
 use crate::values::{Rng, SPECIAL};
 use oracle::expected;
 
-/// Document 01's layouts, every count at its limits, the largest total for each count, unequal and zero sizes.
+/// Document 01's layouts, every count at its limits, the largest total for each count, other sizes and zeros among equal ones.
 pub fn layouts(list: &mut List, rng: &mut Rng) {
     let mut of = |g: u8, n: u32, m: u32| list.layout(&[g; 16], n, m);
     for (g, n, m) in [(17, 4, 3), (4, 15, 3), (4, 15, 4), (255, 4, 1), (255, 4, 2)] {
@@ -23,14 +24,38 @@ pub fn layouts(list: &mut List, rng: &mut Rng) {
             }
         }
     }
-    list.layout(&[2, 3, 0, 0, 0, 0, 0, 0, 0, 0, 0, 0, 0, 0, 0, 0], 2, 1);
-    list.layout(&[0, 2, 0, 0, 0, 0, 0, 0, 0, 0, 0, 0, 0, 0, 0, 0], 2, 1);
     for _ in 0..60 {
         let mut sizes = [rng.pick(&[1, 2, 3, 84, 255]); 16];
         for _ in 0..rng.within(1, 3) {
             sizes[rng.below(16)] = rng.pick(&[0, 1, 2, 4, 255]);
         }
         list.layout(&sizes, rng.within(1, 15) as u32, rng.within(1, 15) as u32);
+    }
+    unequal_layouts(list, rng);
+}
+
+/// Document 02's layouts (E5), zeros in use and not, totals around the largest, and random sizes in every count.
+fn unequal_layouts(list: &mut List, rng: &mut Rng) {
+    for used in [[2, 3], [3, 2], [0, 2], [2, 0], [1, 255], [255, 1]] {
+        let mut zeros = [0; 16];
+        zeros[..2].copy_from_slice(&used);
+        list.layout(&zeros, 2, 1);
+        list.layout(&laid(rng, &used), 2, rng.within(1, 15) as u32);
+    }
+    let limits: [(&[u8], u32); 8] = [
+        (&[254, 226, 215, 174], 2), (&[2, 174, 215, 226, 254], 1), (&[254, 226, 215, 174], 3), (&[16, 128, 128, 128, 128], 1), (&[15, 128, 128, 128, 128], 1),
+        (&[4, 4, 4, 4, 4, 4, 4, 8, 4, 4, 4, 4, 4, 4, 4], 1), (&[4, 4, 4, 4, 4, 4, 4, 8, 4, 4, 4, 4, 4, 4, 4], 2), (&[128, 128, 128, 2, 128, 128, 128, 128, 128, 128], 1),
+    ];
+    for (used, m) in limits {
+        list.layout(&laid(rng, used), used.len() as u32, m);
+    }
+    for n in 2..=15 {
+        for _ in 0..5 {
+            let m = rng.within(1, 15);
+            let bound = rng.pick(&[1_000, expected::LARGEST_TOTAL, 8 * expected::LARGEST_TOTAL]);
+            let used = of_counts(rng, n, m, bound, Sizes::Unequal);
+            list.layout(&laid(rng, &used), n as u32, m as u32);
+        }
     }
 }
 
@@ -68,7 +93,7 @@ pub fn cubes(list: &mut List, rng: &mut Rng) {
     for i in 0..220 {
         let g = if i % 20 == 0 { 16 } else if i % 20 == 10 { 17 } else { rng.within(1, 8) as u8 };
         let m = rng.within(3, 4) as u32;
-        let all = expected::total(g, 3, m as usize) as usize;
+        let all = expected::total(&[g; 3], m as usize) as usize;
         let seed = rng.next() as u32;
         let table = if rng.one_in(4) { Table::Bits(all, seed) } else { Table::Shares(all + rng.below(2), seed) };
         let node = |rng: &mut Rng| rng.below(g as usize) as u32;
@@ -104,6 +129,6 @@ fn refused(list: &mut List, rng: &mut Rng, kind: u32, faults: [u32; 2]) {
             _ => x_n[rng.below(3)] = rng.pick(&[g as u32, 255, 256, u32::MAX]),
         }
     }
-    let table = Table::Shares(expected::total(g, 3, m as usize) as usize - short, 5);
+    let table = Table::Shares(expected::total(&[g; 3], m as usize) as usize - short, 5);
     list.cube(kind, x, x_n, [0.5, 0.25, 0.75], size, outputs, &table, answer);
 }

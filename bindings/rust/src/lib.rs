@@ -13,7 +13,7 @@ mod tests;
 use refusal::told;
 pub use refusal::Refusal;
 
-/// What is asked of a layout: only the first `n` sizes count, and they are one value.
+/// What is asked of a layout. Only the first `n` sizes count: the grid lines of each ink, the first ink first.
 #[derive(Clone, Copy, Debug, PartialEq, Eq)]
 pub struct Grid {
     /// Grid sizes.
@@ -27,14 +27,32 @@ pub struct Grid {
 impl Grid {
     /// `n` inks of the size `g`, and `m` output inks.
     pub fn new(g: u8, n: usize, m: usize) -> Grid {
+        let sizes = core::array::from_fn(|i| if i < n { g } else { 0 });
+        Grid { sizes, n, m }
+    }
+
+    /// An ink for each size, and `m` output inks. More sizes than inks can be are refused as too many inks.
+    pub fn of_sizes(sizes: &[u8], m: usize) -> Grid {
         Grid {
-            sizes: [g; 16],
-            n,
+            sizes: core::array::from_fn(|i| sizes.get(i).copied().unwrap_or(0)),
+            n: sizes.len(),
             m,
         }
     }
 
-    /// The entries that a table needs: those from one line of the first ink to its next, for each of its lines. Refusals 1 to 5.
+    /// Ink `j`, counted from 1, is taken out: the sizes after it move up by one, and the last place is 0.
+    fn without(&self, j: usize) -> Grid {
+        let mut sizes = self.sizes;
+        sizes.copy_within(j.., j - 1);
+        sizes[15] = 0;
+        Grid {
+            sizes,
+            n: self.n - 1,
+            m: self.m,
+        }
+    }
+
+    /// The entries that a table needs: the sizes of the `n` inks and `m`, multiplied. The refusals of [`layout`].
     pub fn total(&self) -> Result<usize, Refusal> {
         let rows = layout(self)?;
         Ok(rows.grid_filling_size[0] as usize * self.sizes[0] as usize)
@@ -63,7 +81,7 @@ pub struct Cell {
     pub w: f32,
 }
 
-/// The layout's rows. Refusals 1 to 5.
+/// The layout's rows. Refusals 1, 2, 3 and 5, in that order.
 pub fn layout(grid: &Grid) -> Result<Layout, Refusal> {
     let mut rows = Layout {
         grid_strides: [0; 16],
@@ -84,7 +102,7 @@ pub fn layout(grid: &Grid) -> Result<Layout, Refusal> {
     told(number).map(|()| rows)
 }
 
-/// Sets the first `m` entries of `answer` to the colour at `inputs`, and no others. Refusals 1 to 8.
+/// Sets the first `m` entries of `answer` to the colour at `inputs`, and no others. The refusals of [`layout`], then 6, 7 and 8.
 pub fn lookup(
     grid: &Grid,
     table: &[f32],
@@ -107,7 +125,7 @@ pub fn lookup(
     })
 }
 
-/// The `m` entries of a node, as a part of the table. Coordinates come first ink first. Refusals 1 to 7 and 10.
+/// The `m` entries of a node, as a part of the table. Coordinates come first ink first. The refusals of [`layout`], then 6, 7 and 10.
 pub fn node<'a>(
     grid: &Grid,
     table: &'a [f32],
@@ -131,7 +149,7 @@ pub fn node<'a>(
 }
 
 /// Reads the CLUT element of an ICC.1 lutAToBType for `n` inks in and `m` out: sets the first entries of `entries`, as many as [`Grid::total`] of
-/// the grid that it answers, and no others. Refusals 13, 1 to 5, 14, 15 and 8, in that order.
+/// the grid that it answers, and no others. That grid has the element's first `n` sizes, then zeros. Refusal 13, those of [`layout`], then 14, 15 and 8.
 pub fn read_clut(element: &[u8], n: usize, m: usize, entries: &mut [f32]) -> Result<Grid, Refusal> {
     let mut grid = Grid::new(0, n, m);
     // SAFETY: each pointer goes with its slice's length, and the `&mut` overlap nothing.
@@ -150,8 +168,8 @@ pub fn read_clut(element: &[u8], n: usize, m: usize, entries: &mut [f32]) -> Res
 }
 
 /// Cuts out the table that remains when ink `j`, counted from 1, stands on grid line `k`, counted from 0: sets the first entries of `slab`, as many as
-/// [`Grid::total`] of the grid that it answers, and no others. That grid has one ink fewer and is for lookups in the slab with the other inks' inputs.
-/// Refusals 1 to 6, 11, 12 and 8, in that order.
+/// [`Grid::total`] of the grid that it answers, and no others. That grid is this one with ink `j` taken out, for lookups in the slab with the other inks'
+/// inputs. The refusals of [`layout`], then 6, 11, 12 and 8.
 pub fn cut_slab(
     grid: &Grid,
     table: &[f32],
@@ -172,11 +190,8 @@ pub fn cut_slab(
             slab.as_mut_ptr(),
             slab.len(),
         )
-    })?;
-    Ok(Grid {
-        n: grid.n - 1,
-        ..*grid
     })
+    .map(|()| grid.without(j))
 }
 
 /// The cell of each 8-bit ink code on an axis of `g` lines. Refusal 3.

@@ -2,7 +2,7 @@
 
 use core::fmt;
 
-/// Why a call was refused. The numbers are the library's.
+/// Why a call was refused. The numbers are the library's; 4 is withdrawn and not given.
 #[derive(Clone, Copy, Debug, PartialEq, Eq, Hash)]
 #[repr(u32)]
 pub enum Refusal {
@@ -12,8 +12,6 @@ pub enum Refusal {
     OutputInks = 2,
     /// A size in use is 0.
     ZeroSize = 3,
-    /// The sizes in use are not equal.
-    UnequalSizes = 4,
     /// The table would have more than 4,294,967,295 entries.
     LargeTotal = 5,
     /// The table is shorter than the layout asks.
@@ -24,11 +22,11 @@ pub enum Refusal {
     ShortAnswer = 8,
     /// A layout record is not one that an accepted layout gives. No function here takes a record.
     ForeignRecord = 9,
-    /// A node, of a cell or of the coordinates, is outside the grid.
+    /// A node, of a cell or of the coordinates, is past the last line of its axis.
     OutsideGrid = 10,
     /// The ink to cut is not one of the input inks, counted from 1, or there is only one.
     NoSuchInk = 11,
-    /// The line to cut at is not below the grid size.
+    /// The line to cut at is not below the size of the ink to cut.
     NoSuchLine = 12,
     /// A CLUT element has under 20 bytes.
     ShortElement = 13,
@@ -39,11 +37,10 @@ pub enum Refusal {
 }
 
 impl Refusal {
-    pub(crate) const ALL: [Refusal; 15] = [
+    pub(crate) const ALL: [Refusal; 14] = [
         Refusal::InputInks,
         Refusal::OutputInks,
         Refusal::ZeroSize,
-        Refusal::UnequalSizes,
         Refusal::LargeTotal,
         Refusal::ShortTable,
         Refusal::InputCount,
@@ -69,7 +66,6 @@ impl fmt::Display for Refusal {
             Refusal::InputInks => "the number of input inks is outside 1..15",
             Refusal::OutputInks => "the number of output inks is not one that is accepted",
             Refusal::ZeroSize => "a grid size in use is 0",
-            Refusal::UnequalSizes => "the grid sizes in use are not equal",
             Refusal::LargeTotal => "the table would have more than 4,294,967,295 entries",
             Refusal::ShortTable => "the table is shorter than the layout asks",
             Refusal::InputCount => {
@@ -79,7 +75,7 @@ impl fmt::Display for Refusal {
             Refusal::ForeignRecord => "the record is not one that an accepted layout gives",
             Refusal::OutsideGrid => "a node is outside the grid",
             Refusal::NoSuchInk => "the ink to cut is not an ink, or it is the only one",
-            Refusal::NoSuchLine => "the line to cut at is not one of the grid",
+            Refusal::NoSuchLine => "the line to cut at is not one of the ink",
             Refusal::ShortElement => "the CLUT element has under 20 bytes",
             Refusal::Precision => "the precision of the CLUT element is neither 1 nor 2",
             Refusal::ShortData => "the CLUT element has too little data for the table",

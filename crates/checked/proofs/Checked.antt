@@ -3,7 +3,7 @@
 use mathlib.Core.Path.{_≡_, refl}
 use mathlib.Core.Bool.{true}
 use lib.Ieee.{ofBits, toBits, ofInt, toUnsigned, add, sub, mul, div, lt, le}
-use Rattle.lists.specs.Lists.{tabulate, every, product}
+use Rattle.lists.specs.Lists.{tabulate, every, lastFirst, product}
 use Rattle.cell.specs.Rule.{clipOf, productOf, upOf, weightOf, nextOf, cellLow, cellHigh}
 use Rattle.layout.specs.Order.{index}
 use Rattle.layout.specs.Layout.{isCount, recordOf, refusedBy, laidUsing, laidOf}
@@ -13,8 +13,8 @@ use Rattle.weights.specs.Rule.{scaleOf, cellOf, weightCell, rangedCell}
 use Rattle.cubes.specs.Cube.{onGrid}
 use Rattle.cubes.specs.Cube as Cube
 use Rattle.checked.specs.Cases as Cases
-use Rattle.checked.specs.Cases.{all, bits, totalOf, stridesOf, lookOf, between, cubeOf, answers, sameNumbers, right, over, corner, lastAt, justUnder, cases}
+use Rattle.checked.specs.Cases.{all, bits, totalOf, stridesOf, lookOf, between, cubeOf, answers, sameNumbers, right, over, upTo5, corner, lastAt, justUnder, cases}
 
 pub checked : every right cases ≡ true
-unfolding ofBits toBits ofInt toUnsigned add sub mul div lt le tabulate every product clipOf productOf upOf weightOf nextOf cellLow cellHigh index isCount recordOf refusedBy laidUsing laidOf lookup inkCell cells answerAt refusal scaleOf cellOf weightCell rangedCell onGrid Cube.answerAt Cube.refusal all bits totalOf stridesOf lookOf between cubeOf Cases.weightOf answers sameNumbers right over corner lastAt justUnder cases
+unfolding ofBits toBits ofInt toUnsigned add sub mul div lt le tabulate every lastFirst product clipOf productOf upOf weightOf nextOf cellLow cellHigh index isCount recordOf refusedBy laidUsing laidOf lookup inkCell cells answerAt refusal scaleOf cellOf weightCell rangedCell onGrid Cube.answerAt Cube.refusal all bits totalOf stridesOf lookOf between cubeOf Cases.weightOf answers sameNumbers right over upTo5 corner lastAt justUnder cases
 checked = refl

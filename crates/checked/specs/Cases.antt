@@ -1,7 +1,7 @@
--- Document 01's checked numbers, the cases marked P, and case 12 as document 02, E4, has it: what is asked, what the definitions answer, and the table of both. Definitions only.
+-- Document 01's checked numbers, the cases marked P, with case 12 as document 02, E4, has it, and P5's first case with E5's strides: what is asked, what the definitions answer, and the table of both. Definitions only.
 use Prim.Native.Nat.{ℕ, _-_, _*_}
 use mathlib.Core.Bool.{Bool, true, false, _&&_}
-use mathlib.Core.List.{List, [], _∷_, _++_}
+use mathlib.Core.List.{List, [], _∷_, _++_, map}
 use lib.Dec.{eqb}
 use lib.Ieee.{Float, nan, binary32, div, toBits}
 use lib.ListN.{length, take, replicate}
@@ -16,11 +16,11 @@ use Rattle.weights.specs.declared.RangedCell.{RangedCell}
 use Rattle.cubes.specs.Blends.{Blend, pyramid, prism, trilinear}
 use Rattle.cubes.specs.Cube as Cube
 
--- What is asked. Sizes are those of the first inks; a lookup gives g to all sixteen.
+-- What is asked. Sizes are those of the first inks; a lookup gives g to all sixteen, or a size to each ink.
 pub data Asked : Type 0 where
   total : List ℕ → ℕ → ℕ → Asked  -- a layout's number and total: sizes, n, m
-  strides : ℕ → ℕ → ℕ → Asked  -- the same of a layout whose sizes are all g, then its strides and filling sizes: g, n, m
-  look : ℕ → ℕ → ℕ → List Float → List Float → Asked  -- a lookup's number and the bits of its answers: g, n, m, table, inputs
+  strides : List ℕ → ℕ → ℕ → Asked  -- the same, then its strides, filling sizes, scales' bits and sizes: sizes, n, m
+  look : List ℕ → ℕ → ℕ → List Float → List Float → Asked  -- a lookup's number and the bits of its answers: sizes, n, m, table, inputs
   cube : Blend → ℕ → ℕ → List Float → Float → Float → Float → Asked  -- the same of a cube method between the lines 0 and 1: g, m, table, three weights
   weight : ℕ → ℕ → Asked  -- the number, nodes and weight bits of an 8-bit code: g, index
 
@@ -40,7 +40,8 @@ unfoldable pub totalOf : Laid → List ℕ
 totalOf laid = laid .refusal ∷ entries (laid .lut) ∷ []
 
 unfoldable pub stridesOf : Laid → ℕ → List ℕ
-stridesOf laid n = totalOf laid ++ take n (laid .lut .«grid_strides») ++ take n (laid .lut .«grid_filling_size»)
+stridesOf laid n =
+    totalOf laid ++ take n (laid .lut .«grid_strides») ++ take n (laid .lut .«grid_filling_size») ++ map bits (take n (laid .lut .«grid_scale»)) ++ laid .lut .«grid_sizes»
 
 -- with an answer buffer of m places
 unfoldable pub lookOf : Laid → ℕ → List Float → List Float → List ℕ
@@ -60,8 +61,8 @@ weightOf ranged = ranged .refusal ∷ ranged .cell .x ∷ ranged .cell .«x_n» 
 -- what the definitions answer
 unfoldable pub answers : Asked → List ℕ
 answers (total sizes n m) = totalOf (laidOf sizes n m)
-answers (strides g n m) = stridesOf (laidOf (all g) n m) n
-answers (look g n m table inputs) = lookOf (laidOf (all g) n m) m table inputs
+answers (strides sizes n m) = stridesOf (laidOf sizes n m) n
+answers (look sizes n m table inputs) = lookOf (laidOf sizes n m) m table inputs
 answers (cube blend g m table u v w) = cubeOf blend g m table (between u) (between v) (between w)
 answers (weight g index) = weightOf (rangedCell g index)
 
@@ -78,6 +79,10 @@ right c = sameNumbers (answers (c .asked)) (c .told)
 unfoldable pub over : ℕ → ℕ → Float
 over a b = div binary32 (ofWhole a) (ofWhole b)
 
+-- six entries, each its place
+unfoldable pub upTo5 : List Float
+upTo5 = map ofWhole (0 ∷ 1 ∷ 2 ∷ 3 ∷ 4 ∷ 5 ∷ [])
+
 -- zeros, but ones at the node 1, 1, 1 of a grid of two lines with m outputs
 unfoldable pub corner : ℕ → List Float
 corner m = replicate (7 * m) (ofWhole 0) ++ replicate m (ofWhole 1)
@@ -93,7 +98,10 @@ justUnder = replicate 4 (ofWhole 0) ++ (over 16777215 33554432 ∷ [])
 unfoldable pub cases : List Case
 cases =
     -- P1
-    record { asked = strides 17 4 3; told = 0 ∷ 250563 ∷ 4913 ∷ 289 ∷ 17 ∷ 1 ∷ 14739 ∷ 867 ∷ 51 ∷ 3 ∷ [] }
+    record {
+      asked = strides (all 17) 4 3;
+      told = 0 ∷ 250563 ∷ 4913 ∷ 289 ∷ 17 ∷ 1 ∷ 14739 ∷ 867 ∷ 51 ∷ 3 ∷ (replicate 4 (bits (ofWhole 16)) ++ replicate 4 17 ++ replicate 12 0);
+    }
     -- P2, P3
     ∷ record { asked = total (all 4) 15 3; told = 0 ∷ 3221225472 ∷ [] }
     ∷ record { asked = total (all 4) 15 4; told = 5 ∷ 0 ∷ [] }
@@ -104,19 +112,23 @@ cases =
     ∷ record { asked = total (all 17) 16 3; told = 1 ∷ 0 ∷ [] }
     ∷ record { asked = total (all 17) 3 0; told = 2 ∷ 0 ∷ [] }
     ∷ record { asked = total (all 17) 3 16; told = 2 ∷ 0 ∷ [] }
-    ∷ record { asked = total (2 ∷ 3 ∷ []) 2 1; told = 4 ∷ 0 ∷ [] }
+    ∷ record { asked = strides (2 ∷ 3 ∷ all 7) 2 1; told = 0 ∷ 6 ∷ 3 ∷ 1 ∷ 3 ∷ 1 ∷ bits (ofWhole 1) ∷ bits (ofWhole 2) ∷ 2 ∷ 3 ∷ replicate 14 0 }
+    ∷ record { asked = strides (3 ∷ 2 ∷ all 7) 2 1; told = 0 ∷ 6 ∷ 2 ∷ 1 ∷ 2 ∷ 1 ∷ bits (ofWhole 2) ∷ bits (ofWhole 1) ∷ 3 ∷ 2 ∷ replicate 14 0 }
     ∷ record { asked = total (0 ∷ 2 ∷ []) 2 1; told = 3 ∷ 0 ∷ [] }
     -- P6
-    ∷ record { asked = look 2 1 1 (ofWhole 0 ∷ ofWhole 1 ∷ []) (over 1 4 ∷ []); told = 0 ∷ bits (over 1 4) ∷ [] }
-    ∷ record { asked = look 2 1 1 (ofWhole 0 ∷ ofWhole 1 ∷ []) (nan ∷ []); told = 0 ∷ bits (ofWhole 0) ∷ [] }
-    ∷ record { asked = look 2 1 1 (ofWhole 0 ∷ ofWhole 1 ∷ []) (ofWhole 2 ∷ []); told = 0 ∷ bits (ofWhole 1) ∷ [] }
+    ∷ record { asked = look (all 2) 1 1 (ofWhole 0 ∷ ofWhole 1 ∷ []) (over 1 4 ∷ []); told = 0 ∷ bits (over 1 4) ∷ [] }
+    ∷ record { asked = look (all 2) 1 1 (ofWhole 0 ∷ ofWhole 1 ∷ []) (nan ∷ []); told = 0 ∷ bits (ofWhole 0) ∷ [] }
+    ∷ record { asked = look (all 2) 1 1 (ofWhole 0 ∷ ofWhole 1 ∷ []) (ofWhole 2 ∷ []); told = 0 ∷ bits (ofWhole 1) ∷ [] }
     -- P7
     ∷ record {
-      asked = look 2 2 1 (ofWhole 0 ∷ ofWhole 1 ∷ ofWhole 2 ∷ ofWhole 3 ∷ []) (over 1 2 ∷ over 1 4 ∷ []);
+      asked = look (all 2) 2 1 (ofWhole 0 ∷ ofWhole 1 ∷ ofWhole 2 ∷ ofWhole 3 ∷ []) (over 1 2 ∷ over 1 4 ∷ []);
       told = 0 ∷ bits (over 5 4) ∷ [];
     }
+    -- nodes that ICC.1's strides alone find, of the sizes 2, 3 and 3, 2
+    ∷ record { asked = look (2 ∷ 3 ∷ []) 2 1 upTo5 (ofWhole 1 ∷ ofWhole 0 ∷ []); told = 0 ∷ bits (ofWhole 3) ∷ [] }
+    ∷ record { asked = look (3 ∷ 2 ∷ []) 2 1 upTo5 (ofWhole 1 ∷ ofWhole 1 ∷ []); told = 0 ∷ bits (ofWhole 5) ∷ [] }
     -- P8
-    ∷ record { asked = look 2 3 1 (corner 1) (over 1 2 ∷ over 1 4 ∷ over 3 4 ∷ []); told = 0 ∷ bits (over 1 4) ∷ [] }
+    ∷ record { asked = look (all 2) 3 1 (corner 1) (over 1 2 ∷ over 1 4 ∷ over 3 4 ∷ []); told = 0 ∷ bits (over 1 4) ∷ [] }
     -- P9
     ∷ record { asked = cube pyramid 2 3 (corner 3) (over 1 2) (over 1 4) (over 3 4); told = 0 ∷ replicate 3 (bits (over 1 4)) }
     ∷ record { asked = cube prism 2 3 (corner 3) (over 1 2) (over 1 4) (over 3 4); told = 0 ∷ replicate 3 (bits (over 1 8)) }
@@ -126,6 +138,6 @@ cases =
     ∷ record { asked = weight 33 255; told = 0 ∷ 32 ∷ 32 ∷ bits (ofWhole 0) ∷ [] }
     ∷ record { asked = weight 1 200; told = 0 ∷ 0 ∷ 0 ∷ bits (ofWhole 0) ∷ [] }
     -- 12: ink 5 is not blended with the node two steps off, but with the next one
-    ∷ record { asked = look 3 5 1 (lastAt 2) justUnder; told = 0 ∷ bits (ofWhole 0) ∷ [] }
-    ∷ record { asked = look 3 5 1 (lastAt 1) justUnder; told = 0 ∷ 0x3f7f_ffff ∷ [] }
+    ∷ record { asked = look (all 3) 5 1 (lastAt 2) justUnder; told = 0 ∷ bits (ofWhole 0) ∷ [] }
+    ∷ record { asked = look (all 3) 5 1 (lastAt 1) justUnder; told = 0 ∷ 0x3f7f_ffff ∷ [] }
     ∷ []

@@ -50,7 +50,7 @@ layoutOf element n m = laidOf (sizesOf element) n m
 abbrev pub totalOf : List ℕ → ℕ → ℕ → ℕ
 totalOf element n m = entries (layoutOf element n m .lut)
 
--- 13, 1 to 5, 14, 15, 8
+-- 13, 1, 2, 3, 5, 14, 15, 8
 unfoldable pub refusal : List ℕ → ℕ → ℕ → ℕ → ℕ
 refusal element n m room =
     cond (ltb (length element) 20) 13

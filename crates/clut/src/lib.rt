@@ -8,7 +8,7 @@ ghost use Rattle.layout.specs.Layout.{limit};
 ghost use Rattle.clut.specs.Clut.{sizesOf, isPrecision, dataRefusal, ClutRead};
 
 // The sixteen grid sizes at an element's start. A byte that is missing counts as 0.
-pub fn sizes_of(element: &[u8]) -> [u8; 16]
+fn sizes_of(element: &[u8]) -> [u8; 16]
     ensures { λ r. ⌜ r ≡ sizesOf (now (element .entry)) ⌝ }
 {
     let mut sizes = [0u8; 16];
@@ -47,7 +47,7 @@ fn data_refusal(precision: u8, bytes: usize, total: u64, room: usize) -> u32
     0
 }
 
-// Reads an element for n inks in and m out: checks 13, 1 to 5, 14, 15, 8. Answers the layout, and sets the first total places of `entries`.
+// Reads an element for n inks in and m out: checks 13, 1, 2, 3, 5, 14, 15, 8. Answers the layout, and sets the first total places of `entries`.
 // Refused, it answers a record of zeros and nothing is written.
 pub fn read_clut(element: &[u8], n: usize, m: usize, entries: &mut [f32]) -> Laid
     ensures { λ r. ⌜ ClutRead (now (element .entry)) n m (now (entries .entry)) r (now (entries .exit)) ⌝ }

@@ -6,29 +6,34 @@ use mathlib.Core.Path.{_≡_, sym, ap, _∙_, subst}
 use mathlib.Core.List.{List, reverse}
 use native.Mathlib.Omega.{arith}
 use lib.Ieee.{Float, nan}
-use lib.ListN.{length, getD, getD-replicate}
+use lib.ListN.{length, getD}
+use Rattle.lists.proofs.Lists.{last-first-at}
 use Rattle.binary32.specs.Same.{plain, Same}
 use Rattle.binary32.specs.Range.{Share}
 use Rattle.layout.specs.declared.MultidimensionalLut.{MultidimensionalLut}
 use Rattle.layout.specs.Order.{index, Within}
-use Rattle.layout.specs.Layout.{IsLayout, inkSizes, entries, fewer}
+use Rattle.layout.specs.Layout.{IsLayout, inkSizes, entries}
 use Rattle.layout.proofs.Order.{entries-within}
-use Rattle.layout.proofs.Laws.{inks-to, size-from, size-to, ink-count, fewer-inks, fewer-outputs, fewer-is-layout}
+use Rattle.layout.proofs.Laws.{inks-to, size-from, size-to, ink-count, size-of}
 use Rattle.lookup.specs.Lookup.{Grid, lookup}
 use Rattle.lookup.specs.Table.{output, answerAt}
-use Rattle.slab.specs.Slab.{insert, without, SlabCut}
+use Rattle.slab.specs.Slab.{insert, without, sizeOf, fewer, SlabCut}
 use Rattle.demands.specs.Demand.{Cuttable, Shares, OnLine, AtANode, OnALine}
-use Rattle.demands.proofs.Each.{All, all-replicate, each-map}
+use Rattle.demands.proofs.Each.{All, all-last-first, each-map}
 use Rattle.demands.proofs.Lookups.{lookup-agrees}
 use Rattle.slab.proofs.Without.{length-without}
 use Rattle.demands.proofs.InkCells.{Sized, OnLines, low, low-sound, lows, on-lines, cells-within}
 use Rattle.demands.proofs.Rules.{Shared, rules-same}
 use Rattle.demands.proofs.Cuts.{line-in, node-in, node-answer, cut-answer}
+use Rattle.slab.proofs.Fewer.{fewer-inks, fewer-outputs, fewer-is-layout}
 use Rattle.slab.proofs.Slabs.{others-are, slab-entry, slab-all}
 use Rattle.slab.proofs.Cutting.{slab-cut-length, passed-done, cut-passed, cut-entry}
 
+sized : (lut : MultidimensionalLut) → IsLayout lut → (i : ℕ) → i < lut .«input_inks» → Sized (getD (lut .«grid_sizes») i 0)
+sized lut is i h = (size-from lut is i h, omega (arith, size-to lut is i))
+
 sizes-are : (lut : MultidimensionalLut) → IsLayout lut → All Sized (inkSizes lut)
-sizes-are lut is = all-replicate Sized (lut .«input_inks») (lut .«grid_size») (size-from lut is, omega (arith, size-to lut is))
+sizes-are lut is = all-last-first Sized (lut .«input_inks») (lut .«grid_sizes») (λ i h. sized lut is i h)
 
 few : (lut : MultidimensionalLut) → IsLayout lut → length (inkSizes lut) ≤ 1000
 few lut is = omega (arith, ink-count lut is, inks-to lut is)
@@ -40,7 +45,7 @@ module _ (lut : MultidimensionalLut) (is : IsLayout lut) (table : List Float) (s
   -- ---- all inks on grid lines, listed first ink first
 
   module _ (lines : List ℕ) (len : length lines ≡ lut .«input_inks»)
-      (on : (i : ℕ) → i < lut .«input_inks» → OnLine lut (getD xs i nan) (getD lines i 0)) where
+      (on : (i : ℕ) → i < lut .«input_inks» → OnLine lut xs i (getD lines i 0)) where
     as-many : length lines ≡ length (inkSizes lut)
     as-many = len ∙ sym (ink-count lut is)
 
@@ -48,7 +53,7 @@ module _ (lut : MultidimensionalLut) (is : IsLayout lut) (table : List Float) (s
     stand =
         on-lines (inkSizes lut) xs lines (λ p i e.
         let count = ink-count lut is in
-        rw (getD-replicate (lut .«input_inks») p (lut .«grid_size») 0 (omega arith)) (on i (omega arith)))
+        rw (last-first-at (lut .«input_inks») (lut .«grid_sizes») p i (omega arith)) (on i (omega arith)))
 
     -- the node's entries stand in the table
     pub node-entry : (o : ℕ) → o < lut .«output_inks» → index (inkSizes lut) (reverse lines) * lut .«output_inks» + o < entries lut
@@ -62,15 +67,15 @@ module _ (lut : MultidimensionalLut) (is : IsLayout lut) (table : List Float) (s
 
   -- ---- ink j, counted from 1, on grid line k
 
-  module _ (j k : ℕ) (may : Cuttable j (lut .«input_inks»)) (on : OnLine lut (getD xs (j - 1) nan) k) where
+  module _ (j k : ℕ) (may : Cuttable j (lut .«input_inks»)) (on : OnLine lut xs (j - 1) k) where
     from : 4 ≤ j
     from = may .0
 
     to : j ≤ lut .«input_inks»
     to = may .1
 
-    in-grid : k < lut .«grid_size»
-    in-grid = line-in (lut .«grid_size») (getD xs (j - 1) nan) k (size-from lut is, omega (arith, size-to lut is)) on
+    in-grid : k < sizeOf lut j
+    in-grid = line-in (sizeOf lut j) (getD xs (j - 1) nan) k (sized lut is (j - 1) (omega (arith, from, to))) on
 
     two : 2 ≤ lut .«input_inks»
     two = omega (arith, from, to)
@@ -79,47 +84,47 @@ module _ (lut : MultidimensionalLut) (is : IsLayout lut) (table : List Float) (s
     one = omega (arith, from)
 
     -- the cut is refused for a short table or a short buffer alone
-    pub cut-accepted : entries lut ≤ length table → (old : List Float) → entries (fewer lut) ≤ length old → (r : ℕ) (now : List Float) → SlabCut lut table j k old r now → r ≡ 0
+    pub cut-accepted : entries lut ≤ length table → (old : List Float) → entries (fewer lut j) ≤ length old → (r : ℕ) (now : List Float) → SlabCut lut table j k old r now → r ≡ 0
     cut-accepted enough old holds r now cut =
         passed-done lut (length table) j k (length old) r (record { is = is; enough = enough; from = one; to = to; two = two; in-grid = in-grid; holds = holds })
         (record { laid = cut .laid; decides = cut .decides; number = cut .number })
 
     -- the smaller lookup is accepted: its layout, its table of enough entries, its inputs in the right number; and its entries are from 0 to 1 again
-    pub smaller-layout : IsLayout (fewer lut)
-    smaller-layout = fewer-is-layout lut is two
+    pub smaller-layout : IsLayout (fewer lut j)
+    smaller-layout = fewer-is-layout lut is two j one to
 
-    pub smaller-inputs : length xs ≡ lut .«input_inks» → length (without (j - 1) xs) ≡ fewer lut .«input_inks»
-    smaller-inputs e = omega (arith, fewer-inks lut is two, length-without (j - 1) xs (omega (arith, from, to)), from)
+    pub smaller-inputs : length xs ≡ lut .«input_inks» → length (without (j - 1) xs) ≡ fewer lut j .«input_inks»
+    smaller-inputs e = omega (arith, fewer-inks lut is two j one to, length-without (j - 1) xs (omega (arith, from, to)), from)
 
     module _ (old smaller : List Float) (cut : SlabCut lut table j k old 0 smaller) where
-      pub smaller-table : entries (fewer lut) ≤ length smaller
+      pub smaller-table : entries (fewer lut j) ≤ length smaller
       smaller-table = omega (arith, slab-cut-length lut table j k old 0 smaller cut, cut-passed lut table j k old smaller cut .holds)
 
-      pub smaller-shares : Shares smaller (entries (fewer lut))
+      pub smaller-shares : Shares smaller (entries (fewer lut j))
       smaller-shares e l = subst Share (sym (cut-entry lut table j k old smaller cut e l)) (slab-all lut is two j one to k in-grid table Share shares e l)
 
       -- each entry is that of the node with k put in for ink j
-      smaller-entry : (o : ℕ) → o < lut .«output_inks» → (ks : List ℕ) → Within (inkSizes (fewer lut)) ks → output lut table o (insert (lut .«input_inks» - j) k ks) ≡ output (fewer lut) smaller o ks
+      smaller-entry : (o : ℕ) → o < lut .«output_inks» → (ks : List ℕ) → Within (inkSizes (fewer lut j)) ks → output lut table o (insert (lut .«input_inks» - j) k ks) ≡ output (fewer lut j) smaller o ks
       smaller-entry o h ks w =
-          let m = fewer lut .«output_inks» in
-          let below : index (inkSizes (fewer lut)) ks * m + o < entries (fewer lut) = omega (arith, entries-within (inkSizes (fewer lut)) ks m w, fewer-outputs lut is two) in
+          let m = fewer lut j .«output_inks» in
+          let below : index (inkSizes (fewer lut j)) ks * m + o < entries (fewer lut j) = omega (arith, entries-within (inkSizes (fewer lut j)) ks m w, fewer-outputs lut is two j one to) in
           sym (cut-entry lut table j k old smaller cut _ below ∙ slab-entry lut is two j one to k in-grid table ks o w h)
 
-      line-same : (o : ℕ) → o < lut .«output_inks» → Same (answerAt lut table xs o) (answerAt (fewer lut) smaller (without (j - 1) xs) o)
+      line-same : (o : ℕ) → o < lut .«output_inks» → Same (answerAt lut table xs o) (answerAt (fewer lut j) smaller (without (j - 1) xs) o)
       unfolding answerAt
       line-same o h =
           let p = lut .«input_inks» - j in
           let ys = without (j - 1) xs in
-          let size = getD-replicate (lut .«input_inks») p (lut .«grid_size») 0 (omega (arith, from, to)) in
+          let size = size-of lut is j one to in
           let f : Grid = λ ks. output lut table o (insert p k ks) in
-          let others = inkSizes (fewer lut) in
-          let g : Grid = output (fewer lut) smaller o in
+          let others = inkSizes (fewer lut j) in
+          let g : Grid = output (fewer lut j) smaller o in
           let laid = smaller-layout in
-          let fits : o < fewer lut .«output_inks» = omega (arith, fewer-outputs lut is two) in
+          let fits : o < fewer lut j .«output_inks» = omega (arith, fewer-outputs lut is two j one to) in
           cut-answer (inkSizes lut) (sizes-are lut is) (few lut is) (output lut table o) (shared lut is table shares o h) xs p (j - 1) k (omega (arith, from, to, ink-count lut is)) (omega (arith, from)) (rw size on)
           ∙ ap (λ (gs : List ℕ). plain (lookup f (lows gs ys))) (others-are lut is two j one to)
-          ∙ ap plain (lookup-agrees f g (lows others ys) (each-map (Within others) _ (lows others ys) (smaller-entry o h) (cells-within low low-sound others ys (sizes-are (fewer lut) laid))))
-          ∙ sym (rules-same others (sizes-are (fewer lut) laid) (few (fewer lut) laid) g (shared (fewer lut) laid smaller smaller-shares o fits) ys)
+          ∙ ap plain (lookup-agrees f g (lows others ys) (each-map (Within others) _ (lows others ys) (smaller-entry o h) (cells-within low low-sound others ys (sizes-are (fewer lut j) laid))))
+          ∙ sym (rules-same others (sizes-are (fewer lut j) laid) (few (fewer lut j) laid) g (shared (fewer lut j) laid smaller smaller-shares o fits) ys)
 
 -- ---- demand 3
 

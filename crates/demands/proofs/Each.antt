@@ -3,9 +3,11 @@
 use Prim.Native.Nat.{ℕ, zero, suc, _<_}
 use mathlib.Core.Bool.{Bool, true, false, cond}
 use mathlib.Core.List.{List, [], _∷_}
-use native.Mathlib.Nat.{le-of-suc-le-suc, not-suc-le-zero}
-use lib.ListN.{length, getD, replicate}
+use native.Mathlib.Nat.{le-refl, le-of-suc-le-suc, not-suc-le-zero}
+use native.Mathlib.Omega.{arith}
+use lib.ListN.{length, getD}
 use lib.Ieee.{Float}
+use Rattle.lists.specs.Lists.{lastFirst}
 use Rattle.cell.specs.declared.Cell.{Cell}
 use Rattle.lookup.specs.Lookup.{node}
 
@@ -22,9 +24,10 @@ pub all-map : {A : Type 0} (P Q : A → Type 0) (xs : List A) → ((x : A) → P
 all-map P Q [] g h = tt
 all-map P Q (x ∷ xs) g h = (g x (h .0), all-map P Q xs g (h .1))
 
-pub all-replicate : {A : Type 0} (P : A → Type 0) (n : ℕ) (a : A) → P a → All P (replicate n a)
-all-replicate P zero a h = tt
-all-replicate P (suc n) a h = (h, all-replicate P n a h)
+pub all-last-first : (P : ℕ → Type 0) (n : ℕ) (xs : List ℕ) → ((i : ℕ) → i < n → P (getD xs i 0)) → All P (lastFirst n xs)
+unfolding lastFirst
+all-last-first P zero xs h = tt
+all-last-first P (suc n) xs h = (h n (le-refl (suc n)), all-last-first P n xs (λ i l. h i (omega arith)))
 
 pub all-at : {A : Type 0} (P : A → Type 0) (xs : List A) (i : ℕ) (d : A) → i < length xs → All P xs → P (getD xs i d)
 all-at P [] i d l h = absurd (not-suc-le-zero l)

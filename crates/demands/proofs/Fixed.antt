@@ -4,9 +4,9 @@ use Prim.Native.Nat.{ℕ, zero, suc, _<_}
 use mathlib.Core.Path.{_≡_, refl, sym, _∙_}
 use mathlib.Core.List.{List, [], _∷_}
 use native.Mathlib.Omega.{arith}
-use lib.Ieee.{Float, nan, fits, ofInt, mul, lt}
+use lib.Ieee.{Float, fits, ofInt, mul, lt}
 use lib.ListN.{getD, replicate}
-use Rattle.lists.specs.Lists.{every, product}
+use Rattle.lists.specs.Lists.{tabulate, every, lastFirst, product}
 use Rattle.binary32.specs.Numbers.{plusZero, one}
 use Rattle.binary32.specs.Same.{plain}
 use Rattle.cell.specs.Rule.{clipOf, productOf}
@@ -27,19 +27,19 @@ unfolding isCount every product laidUsing laidOf
 is = record { sizes = replicate 16 2; n = 1; m = 1; sixteen = refl; bytes = tt; accepted = refl }
 
 shares : Shares table (entries lut)
-unfolding product recordOf fits
+unfolding product lastFirst tabulate recordOf fits
 shares zero h = record { is-fit = tt; within = omega arith }
 shares (suc zero) h = record { is-fit = tt; within = omega arith }
 shares (suc (suc e)) h = absurd (omega arith)
 
 -- its two nodes
-at-zero : (i : ℕ) → i < lut .«input_inks» → OnLine lut (getD (plusZero ∷ []) i nan) (getD (0 ∷ []) i 0)
-unfolding ofInt mul lt clipOf productOf recordOf
+at-zero : (i : ℕ) → i < lut .«input_inks» → OnLine lut (plusZero ∷ []) i (getD (0 ∷ []) i 0)
+unfolding ofInt mul lt clipOf productOf recordOf tabulate
 at-zero zero h = refl
 at-zero (suc i) h = absurd (omega arith)
 
-at-one : (i : ℕ) → i < lut .«input_inks» → OnLine lut (getD (one ∷ []) i nan) (getD (1 ∷ []) i 0)
-unfolding ofInt mul lt clipOf productOf recordOf
+at-one : (i : ℕ) → i < lut .«input_inks» → OnLine lut (one ∷ []) i (getD (1 ∷ []) i 0)
+unfolding ofInt mul lt clipOf productOf recordOf tabulate
 at-one zero h = refl
 at-one (suc i) h = absurd (omega arith)
 
@@ -47,6 +47,6 @@ apart : plain plusZero ≡ plain one → ⊥
 apart e = let z : _≡_ {A = ℕ} 0 1 = cc in omega arith
 
 pub no-fixed-colour : (colour : Float) → AtANode (λ lut table xs o. colour) → ⊥
-unfolding index recordOf
+unfolding index recordOf lastFirst tabulate
 no-fixed-colour colour met =
     apart (sym (met lut is table shares (plusZero ∷ []) (0 ∷ []) refl at-zero 0 (omega arith)) ∙ met lut is table shares (one ∷ []) (1 ∷ []) refl at-one 0 (omega arith))

@@ -2,18 +2,19 @@
 -- Assumes nothing.
 use Prim.Native.Nat.{ℕ, zero, suc, _+_, _-_, _*_, _/_, _%_, _≤_, _<_}
 use mathlib.Core.Path.{_≡_, refl, sym, ap, _∙_, subst}
-use mathlib.Core.Bool.{Bool, true, _&&_}
+use mathlib.Core.Bool.{true, false, true≢false}
 use mathlib.Core.List.{List, [], _∷_, reverse}
-use native.Mathlib.Nat.{le-refl, add-assoc, mul-one, mul-add, mul-assoc, mul-comm, suc-mul, mul-suc, mul-zero, mul-le-mul-left, mul-le-mul-right, mod-eq-of-lt, div-eq-of-lt, zero-add, add-mul-mod-self-left, add-mul-div-left, suc-inj, mod-lt, div-lt-iff-lt-mul, div-add-mod}
+use native.Mathlib.Nat.{le-refl, mul-one, mul-add, mul-assoc, mul-comm, suc-mul, mul-suc, mul-zero, mul-le-mul-left, mul-le-mul-right, mod-eq-of-lt, div-eq-of-lt, zero-add, add-mul-mod-self-left, add-mul-div-left, suc-inj, mod-lt, div-lt-iff-lt-mul, div-add-mod}
+use native.Mathlib.Decide.{decLt}
 use native.Mathlib.Omega.{arith}
 use lib.Ieee.Positive.{first-pos}
 use lib.Dec.{ltb}
-use lib.ListN.{length, getD, take, drop, replicate, length-reverse}
-use lib.Seq.{getD-drop, drop-cons, take-length, drop-length, length-take-le}
-use borrow.Author.Tests.{ltb-true, lt-ltb}
-use Rattle.lists.specs.Lists.{every, product}
-use Rattle.lists.proofs.Lists.{and-true, and-left, and-right, product-pos, reverse-next}
-use Rattle.layout.specs.Order.{index, Within, strided, Steps, Reaches, nodeAt, inGrid}
+use lib.ListN.{length, getD, take, drop, length-reverse}
+use lib.Seq.{drop-cons, take-length, drop-length, length-take-le}
+use borrow.Author.Tests.{ltb-true, lt-ltb, le-ltb}
+use Rattle.lists.specs.Lists.{lastFirst, product}
+use Rattle.lists.proofs.Lists.{and-true, and-left, and-right, and-not, reverse-next}
+use Rattle.layout.specs.Order.{index, Within, strided, Steps, nodeAt, inGrid}
 
 -- ---- strides give the order
 
@@ -142,42 +143,26 @@ within-in-grid [] (k ∷ ks) w = absurd w
 within-in-grid (g ∷ gs) [] w = absurd w
 within-in-grid (g ∷ gs) (k ∷ ks) w = and-true (ltb k g) (inGrid gs ks) (lt-ltb k g (w .0)) (within-in-grid gs ks (w .1))
 
--- of equal sizes: each coordinate is below the one size
-pub in-grid-equal : (g : ℕ) (ks : List ℕ) → inGrid (replicate (length ks) g) ks ≡ every (λ k. ltb k g) ks
-unfolding inGrid every
-in-grid-equal g [] = refl
-in-grid-equal g (k ∷ ks) = ap (λ (b : Bool). ltb k g && b) (in-grid-equal g ks)
+-- of n inks, first ink first: each coordinate is below its ink's size
+pub in-grid-all : (sizes ks : List ℕ) (n : ℕ) → ((i : ℕ) → i < n → getD ks i 0 < getD sizes i 0) → inGrid (lastFirst n sizes) (lastFirst n ks) ≡ true
+unfolding inGrid lastFirst
+in-grid-all sizes ks zero h = refl
+in-grid-all sizes ks (suc n) h = and-true _ _ (lt-ltb _ _ (h n (le-refl (suc n)))) (in-grid-all sizes ks n (λ i l. h i (omega arith)))
 
--- ---- parts: where the last ink of those with the sizes g ∷ gs stands on line x, the other inks' grid is the part that starts at x * s
+-- and where one is not, the node is outside
+pub in-grid-fails : (sizes ks : List ℕ) (n i : ℕ) → i < n → getD sizes i 0 ≤ getD ks i 0 → inGrid (lastFirst n sizes) (lastFirst n ks) ≡ false
+unfolding inGrid lastFirst
+in-grid-fails sizes ks zero i l h = absurd (omega arith)
+in-grid-fails sizes ks (suc n) i l h =
+    elim (decLt i n) [
+      | yes below ↦ and-not (ltb (getD ks n 0) (getD sizes n 0)) _ (in-grid-fails sizes ks n i below h)
+      | no last ↦ let same : i ≡ n = omega arith in rw (sym same, le-ltb _ _ h)
+    ]
 
-module _ (strides gs : List ℕ) (g s x : ℕ) (steps : Steps strides (g ∷ gs) s) where
-  pub strided-part : (ks : List ℕ) → length ks ≡ length gs → strided strides (x ∷ ks) ≡ x * s + strided strides ks
-  unfolding Steps strided
-  strided-part ks e = rw (e, steps .0)
-
-  pub entry-part : {A : Type 0} (part : List A) (o : ℕ) (d : A) (ks : List ℕ) → length ks ≡ length gs
-      → getD part (strided strides (x ∷ ks) + o) d ≡ getD (drop (x * s) part) (strided strides ks + o) d
-  entry-part part o d ks e =
-      ap (λ (k : ℕ). getD part (k + o) d) (strided-part ks e)
-      ∙ ap (λ (k : ℕ). getD part k d) (add-assoc (x * s) (strided strides ks) o)
-      ∙ sym (getD-drop (x * s) part (strided strides ks + o) d)
-
-  pub steps-part : Steps strides gs (s * g)
-  unfolding Steps
-  steps-part = steps .1
-
-  module _ (m len : ℕ) (line : x < g) (reaches : Reaches strides (g ∷ gs) m len) where
-    pub reaches-part : Reaches strides gs m (len - x * s)
-    unfolding Within
-    reaches-part ks w =
-        let whole = reaches (x ∷ ks) (line, w) in
-        omega (arith, strided-part ks (within-length gs ks w))
-
-    -- the part's start is in the table, where there is a node at all
-    pub part-starts : every (ltb 0) gs ≡ true → x * s + m ≤ len
-    unfolding Within
-    part-starts some =
-        let ks = nodeAt gs 0 in
-        let w = node-within gs 0 (product-pos gs some) in
-        let whole = reaches (x ∷ ks) (line, w) in
-        omega (arith, strided-part ks (within-length gs ks w))
+-- so in a grid each coordinate is below its ink's size
+pub in-grid-at : (sizes ks : List ℕ) (n i : ℕ) → inGrid (lastFirst n sizes) (lastFirst n ks) ≡ true → i < n → getD ks i 0 < getD sizes i 0
+in-grid-at sizes ks n i inside l =
+    elim (decLt (getD ks i 0) (getD sizes i 0)) [
+      | yes below ↦ below
+      | no past ↦ absurd (true≢false (sym inside ∙ in-grid-fails sizes ks n i l (omega arith)))
+    ]

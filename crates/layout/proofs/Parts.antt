@@ -4,7 +4,7 @@ use mathlib.Core.Path.{_≡_, refl, sym, _∙_, ap, subst}
 use mathlib.Core.Bool.{true, cond}
 use mathlib.Core.List.{List}
 use Prim.Native.Nat.{ℕ, suc, _+_, _-_, _*_, _^_, _≤_, _<_}
-use native.Mathlib.Nat.{le-refl, le-trans, mul-le-mul, sub-self}
+use native.Mathlib.Nat.{le-refl, le-trans, mul-le-mul, mul-comm}
 use native.Mathlib.Numerals.{add-one}
 use native.Mathlib.Decide.{decLe, decLt}
 use native.Mathlib.Omega.{arith}
@@ -12,13 +12,13 @@ use lib.Arith.{lt-of-le-ne}
 use lib.Dec.{T, ltb, leb, le→leb}
 use lib.Ieee.{Float, nan, binary32, inFloat, inUnsigned}
 use lib.Ieee.Back.{unsigned-back}
-use lib.ListN.{length, getD, take, set, replicate}
-use lib.Seq.{take-all, ext-getD}
-use borrow.Author.Tests.{leb-true, le-leb, lt-ltb, le-ltb}
+use lib.ListN.{length, getD, take, drop, set, replicate, length-take, drop-of-length-le}
+use lib.Seq.{ext-getD, getD-take, length-take-le, drop-cons}
+use borrow.Author.Tests.{leb-true, ltb-true, le-leb, lt-ltb, le-ltb}
 use Rattle.binary32.specs.Numbers.{plusZero, ofWhole}
 use Rattle.lists.specs.Lists.{tabulate, every, product}
 use Rattle.layout.specs.Layout.{limit, isCount, place, places, stride}
-use Rattle.lists.proofs.Lists.{and-true, and-left, and-right, length-tabulate, tabulate-same, set-tabulate, getD-tabulate, product-take-suc, product-take-le}
+use Rattle.lists.proofs.Lists.{and-true, and-left, and-right, every-at, length-tabulate, tabulate-same, set-tabulate, getD-tabulate, product-drop-le}
 
 pub count-from : (n : ℕ) → isCount n ≡ true → 1 ≤ n
 unfolding isCount
@@ -91,29 +91,55 @@ module _ {A : Type 0} (n : ℕ) (f : ℕ → A) (unused : A) where
       let back : i ≡ i - 1 + 1 = omega arith in
       ap (λ (k : ℕ). set (filledFrom k) (i - 1) (f (i - 1))) back ∙ filled-store (i - 1) (omega arith)
 
+-- ---- sizes
+
+module _ (sizes : List ℕ) (n : ℕ) where
+  -- a place by its ink's size: only the first n sizes count
+  pub places-taken : {A : Type 0} (f : ℕ → A) (unused : A) → places n (λ i. f (getD sizes i 0)) unused ≡ places n (λ i. f (getD (take n sizes) i 0)) unused
+  places-taken f unused =
+      tabulate-same 16 (place n (λ i. f (getD sizes i 0)) unused) (place n (λ i. f (getD (take n sizes) i 0)) unused) (λ i h.
+      elim (decLt i n) [
+        | yes l ↦ simp (lt-ltb i n l, getD-take n sizes i 0 l)
+        | no g ↦ let past : n ≤ i = omega arith in simp (le-ltb i n past)
+      ])
+
+  -- each of them is above 0
+  pub above-at : n ≤ length sizes → every (ltb 0) (take n sizes) ≡ true → (i : ℕ) → i < n → 0 < getD sizes i 0
+  above-at few above i h =
+      let at = every-at (ltb 0) (take n sizes) i above (omega (arith, length-take-le n sizes few)) in
+      ltb-true 0 _ (subst (λ (g : ℕ). ltb 0 g ≡ true) (getD-take n sizes i 0 h) at)
+
+-- n sizes, read back from the record's row
+pub sizes-back : (used : List ℕ) (n : ℕ) → length used ≡ n → n ≤ 16 → take n (places n (λ i. getD used i 0) 0) ≡ used
+sizes-back used n len few =
+    let row = places n (λ i. getD used i 0) 0 in
+    let whole : length (take n row) ≡ n = length-take-le n row (omega (arith, length-tabulate 16 (place n (λ i. getD used i 0) 0))) in
+    ext-getD 0 (take n row) used (whole ∙ sym len) (λ i h.
+    let below : i < n = omega arith in
+    getD-take n row i 0 below ∙ places-used n (λ j. getD used j 0) 0 i 0 few below)
+
 -- ---- strides
 
--- the running product from the last of n inks down, once ink i is passed
-abbrev pub running : List ℕ → ℕ → ℕ → ℕ
-running used n i = product (take (n - i) used)
+-- the running product from the last ink down, once ink i is passed
+abbrev pub running : List ℕ → ℕ → ℕ
+running used i = product (drop i used)
 
-pub running-none : (used : List ℕ) (n : ℕ) → running used n n ≡ 1
+pub running-none : (sizes : List ℕ) (n : ℕ) → running (take n sizes) n ≡ 1
 unfolding product
-running-none used n = ap (λ (k : ℕ). product (take k used)) (sub-self n)
+running-none sizes n = ap product (drop-of-length-le (take n sizes) {i = n} (omega (arith, length-take n sizes)))
 
-module _ (used : List ℕ) (n : ℕ) (len : length used ≡ n) where
-  pub running-all : running used n 0 ≡ product used
-  running-all = ap product (take-all (n - 0) used (omega arith))
+module _ (used : List ℕ) (i : ℕ) (some : 0 < i) where
+  -- it is the stride of the ink before
+  pub running-stride : running used i ≡ stride used (i - 1)
+  running-stride = ap (running used) (let same : i ≡ suc (i - 1) = omega arith in same)
 
-  module _ (i : ℕ) (some : 0 < i) (inks : i ≤ n) where
-    -- it is the stride of the ink before
-    pub running-stride : running used n i ≡ stride used n (i - 1)
-    running-stride = ap (λ (k : ℕ). product (take k used)) (let same : n - i ≡ n - (i - 1) - 1 = omega arith in same)
-
-    pub running-next : running used n (i - 1) ≡ running used n i * getD used (n - i) 0
-    running-next =
-        let next : n - (i - 1) ≡ suc (n - i) = omega arith in
-        ap (λ (k : ℕ). product (take k used)) next ∙ product-take-suc used (n - i) (omega arith)
+  pub running-next : i ≤ length used → running used (i - 1) ≡ running used i * getD used (i - 1) 0
+  unfolding product
+  running-next inks =
+      let same : suc (i - 1) ≡ i = omega arith in
+      ap product (drop-cons used (i - 1) 0 (omega arith))
+      ∙ ap (λ (k : ℕ). getD used (i - 1) 0 * running used k) same
+      ∙ mul-comm (getD used (i - 1) 0) (running used i)
 
 -- what holds from i on and at the place before holds from there on
 pub from-less : {P : ℕ → Type 0} (n i : ℕ) → ((k : ℕ) → i ≤ k → k < n → P k) → P (i - 1) → (k : ℕ) → i - 1 ≤ k → k < n → P k
@@ -123,9 +149,9 @@ from-less {P} n i above here k h l =
       | no g ↦ let same : i - 1 ≡ k = omega arith in subst P same here
     ]
 
--- a product of the first sizes, alone or times m, is within the limit where the total is
-pub product-fits : (used : List ℕ) (i k m : ℕ) → every (ltb 0) used ≡ true → k ≤ m → product used * m ≤ limit → product (take i used) * k ≤ limit
-product-fits used i k m h km t = le-trans (mul-le-mul (product-take-le used i h) km) t
+-- a product of the last sizes, alone or times m, is within the limit where the total is
+pub product-fits : (used : List ℕ) (i k m : ℕ) → every (ltb 0) used ≡ true → k ≤ m → product used * m ≤ limit → running used i * k ≤ limit
+product-fits used i k m h km t = le-trans (mul-le-mul (product-drop-le used i h) km) t
 
 -- ---- no scale is a NaN
 

@@ -1,15 +1,15 @@
--- Document 01, "Sizes, strides and the layout record" and the refusals 1 to 5.
+-- Document 01, "Sizes, strides and the layout record" and its refusals 1, 2, 3 and 5, with a size for each ink (document 02, E5). Refusal 4 is given no more.
 -- Assumes nothing.
-use Prim.Native.Nat.{ℕ, _-_, _*_}
+use Prim.Native.Nat.{ℕ, suc, _-_, _*_}
 use mathlib.Core.Path.{_≡_}
 use mathlib.Core.Bool.{Bool, cond, not, _&&_}
 use mathlib.Core.List.{List}
-use lib.Dec.{leb, ltb, eqb, T}
-use lib.ListN.{length, getD, take, replicate}
+use lib.Dec.{leb, ltb, T}
+use lib.ListN.{length, getD, take, drop, replicate}
 use lib.Pow.{areBytes}
 use Rattle.outcome.specs.Outcome.{onDone}
 use Rattle.binary32.specs.Numbers.{plusZero, ofWhole}
-use Rattle.lists.specs.Lists.{tabulate, every, product}
+use Rattle.lists.specs.Lists.{tabulate, every, lastFirst, product}
 use Rattle.layout.specs.declared.MultidimensionalLut.{MultidimensionalLut}
 use Rattle.layout.specs.declared.Laid.{Laid}
 
@@ -21,17 +21,13 @@ limit = 4_294_967_295
 unfoldable pub isCount : ℕ → Bool
 isCount n = leb 1 n && leb n 15
 
--- the size that all sizes in use have
-abbrev pub common : List ℕ → ℕ
-common used = getD used 0 0
-
--- entries of the whole table
+-- entries of the whole table, of the sizes in use, first ink first
 abbrev pub total : List ℕ → ℕ → ℕ
 total used m = product used * m
 
--- nodes from one line of ink i to the next: the product of the first n - i - 1 sizes
-abbrev pub stride : List ℕ → ℕ → ℕ → ℕ
-stride used n i = product (take (n - i - 1) used)
+-- nodes from one line of ink i to the next: the product of the sizes after i
+abbrev pub stride : List ℕ → ℕ → ℕ
+stride used i = product (drop (suc i) used)
 
 -- at place i: f i where i is one of the n inks in use, else `unused`
 abbrev pub place : {A : Type 0} → ℕ → (ℕ → A) → A → ℕ → A
@@ -44,10 +40,10 @@ places n f unused = tabulate 16 (place n f unused)
 unfoldable pub recordOf : List ℕ → ℕ → ℕ → MultidimensionalLut
 recordOf used n m =
     record {
-      «grid_strides» = places n (stride used n) 1;
-      «grid_filling_size» = places n (λ i. m * stride used n i) 1;
-      «grid_scale» = places n (λ i. ofWhole (common used - 1)) plusZero;
-      «grid_size» = common used;
+      «grid_strides» = places n (stride used) 1;
+      «grid_filling_size» = places n (λ i. m * stride used i) 1;
+      «grid_scale» = places n (λ i. ofWhole (getD used i 0 - 1)) plusZero;
+      «grid_sizes» = places n (λ i. getD used i 0) 0;
       «input_inks» = n;
       «output_inks» = m;
     }
@@ -62,7 +58,7 @@ refusedBy number =
             «grid_strides» = replicate 16 0;
             «grid_filling_size» = replicate 16 0;
             «grid_scale» = replicate 16 plusZero;
-            «grid_size» = 0;
+            «grid_sizes» = replicate 16 0;
             «input_inks» = 0;
             «output_inks» = 0;
           };
@@ -74,9 +70,8 @@ laidUsing used n m =
     cond (not (isCount n)) (refusedBy 1)
     (cond (not (isCount m)) (refusedBy 2)
     (cond (not (every (ltb 0) used)) (refusedBy 3)
-    (cond (not (every (eqb (common used)) used)) (refusedBy 4)
     (cond (ltb limit (total used m)) (refusedBy 5)
-    (record { refusal = 0; lut = recordOf used n m })))))
+    (record { refusal = 0; lut = recordOf used n m }))))
 
 -- what a layout answers: only the first n sizes count
 unfoldable pub laidOf : List ℕ → ℕ → ℕ → Laid
@@ -100,12 +95,8 @@ pub record FillingOf (sizes : List ℕ) (n m : ℕ) (old : List ℕ) (r : ℕ) (
 
 -- the sizes of a record's inks, last ink first
 abbrev pub inkSizes : MultidimensionalLut → List ℕ
-inkSizes lut = replicate (lut .«input_inks») (lut .«grid_size»)
+inkSizes lut = lastFirst (lut .«input_inks») (lut .«grid_sizes»)
 
 -- the entries of a record's whole table
 abbrev pub entries : MultidimensionalLut → ℕ
 entries lut = product (inkSizes lut) * lut .«output_inks»
-
--- the record of the same size and outputs with one ink fewer
-abbrev pub fewer : MultidimensionalLut → MultidimensionalLut
-fewer lut = recordOf (replicate (lut .«input_inks» - 1) (lut .«grid_size»)) (lut .«input_inks» - 1) (lut .«output_inks»)

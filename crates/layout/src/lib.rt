@@ -1,21 +1,21 @@
-// Sizes, strides and the layout record: document 01. The meaning is in specs/Layout.antt.
+// Sizes, strides and the layout record: document 01, with a size for each ink (document 02, E5). The meaning is in specs/Layout.antt.
 mod places;
 mod sizes;
 
 ghost use mathlib.Core.Path.{_≡_};
-ghost use Prim.Native.Nat.{_*_, _≤_};
+ghost use Prim.Native.Nat.{_-_, _*_};
 ghost use lib.ListN.{take, getD};
 ghost use Rattle.outcome.specs.Outcome.{Decides};
-ghost use Rattle.binary32.specs.Numbers.{plusZero};
+ghost use Rattle.binary32.specs.Numbers.{plusZero, ofWhole};
 ghost use Rattle.layout.specs.Layout.{isCount, stride, places, refusedBy, laidOf, IsLayout, FillingOf};
 ghost use Rattle.layout.specs.Tested.{Tested, Fills};
 
-// The record of a layout. The strides count nodes, the filling sizes count table entries.
+// The record of a layout. The strides count nodes, the filling sizes count table entries; unused sizes are 0.
 pub struct MultidimensionalLut {
     pub grid_strides: [u32; 16],
     pub grid_filling_size: [u32; 16],
     pub grid_scale: [f32; 16],
-    pub grid_size: u8,
+    pub grid_sizes: [u8; 16],
     pub input_inks: usize,
     pub output_inks: usize,
 }
@@ -41,11 +41,11 @@ pub fn entry_offset(node: NodeNumber, m: u32) -> EntryOffset
 
 // The entries of the whole table, where the record is a layout's: those of one line of the first ink, for each line.
 pub fn entry_count(lut: MultidimensionalLut) -> u64
-    ensures { λ r. ⌜ r ≡ getD (lut .«grid_filling_size») 0 0 * lut .«grid_size» ⌝ }
+    ensures { λ r. ⌜ r ≡ getD (lut .«grid_filling_size») 0 0 * getD (lut .«grid_sizes») 0 0 ⌝ }
 {
     let per_line = lut.grid_filling_size;
-    let lines = lut.grid_size;
-    (per_line[0] as u64) * (lines as u64)
+    let lines = lut.grid_sizes;
+    (per_line[0] as u64) * (lines[0] as u64)
 }
 
 // A refusal has a record of zeros.
@@ -56,7 +56,7 @@ pub fn refused(number: u32) -> Laid
         grid_strides: [0u32; 16],
         grid_filling_size: [0u32; 16],
         grid_scale: [0.0f32; 16],
-        grid_size: 0,
+        grid_sizes: [0u8; 16],
         input_inks: 0,
         output_inks: 0,
     };
@@ -87,22 +87,20 @@ fn refusal_of(sizes: &[u8; 16], n: usize, m: usize) -> u32
     if !is_count(m) {
         return 2;
     }
-    if !sizes::above_zero(sizes, n) {
+    let total = sizes::capped(sizes, n, m as u64);
+    if total == 0 {
         return 3;
     }
-    if !sizes::equal(sizes, n) {
-        return 4;
-    }
-    if sizes::LIMIT < sizes::capped(sizes, n, m as u64) {
+    if sizes::LIMIT < total {
         return 5;
     }
     0
 }
 
-// A row of the record. From the last ink down each place holds the one before it times the next size; the last ink's holds `first`.
+// A row of the record. The last ink's place holds `first`, and each place before it what stands at the next, times the next ink's size.
 fn fill(row: &mut [u32; 16], first: u32, sizes: &[u8; 16], n: usize)
     requires { ⌜ Fills (now sizes) n first ⌝ }
-    ensures { λ r. ⌜ now (row .exit) ≡ places n (λ i. first * stride (take n (now (sizes .entry))) n i) 1 ⌝ }
+    ensures { λ r. ⌜ now (row .exit) ≡ places n (λ i. first * stride (take n (now (sizes .entry))) i) 1 ⌝ }
 {
     *row = [1u32; 16];
     let mut value = first;
@@ -110,22 +108,24 @@ fn fill(row: &mut [u32; 16], first: u32, sizes: &[u8; 16], n: usize)
     while 0 < i {
         i -= 1;
         row[i] = value;
-        value = value * (sizes[n - i - 1] as u32);
+        value = value * (sizes[i] as u32);
     }
 }
 
-// The record's row of scales: the same for each ink.
-fn scales(scale: f32, n: usize) -> [f32; 16]
-    requires { ⌜ n ≤ 16 ⌝ }
-    ensures { λ r. ⌜ r ≡ places n (λ i. scale) plusZero ⌝ }
+// The record's rows of scales and of sizes: each ink's own.
+fn fill_own(scale: &mut [f32; 16], own: &mut [u8; 16], sizes: &[u8; 16], n: usize)
+    requires { ⌜ Fills (now sizes) n 1 ⌝ }
+    ensures { λ r. ⌜ (now (scale .exit) ≡ places n (λ i. ofWhole (getD (now (sizes .entry)) i 0 - 1)) plusZero) × (now (own .exit) ≡ places n (λ i. getD (now (sizes .entry)) i 0) 0) ⌝ }
 {
-    let mut row = [0.0f32; 16];
+    *scale = [0.0f32; 16];
+    *own = [0u8; 16];
     let mut ink = n;
     while 0 < ink {
         ink -= 1;
-        row[ink] = scale;
+        let size = sizes[ink];
+        scale[ink] = (size - 1) as f32;
+        own[ink] = size;
     }
-    row
 }
 
 // The record of sizes that passed every test.
@@ -137,13 +137,14 @@ fn record_of(sizes: &[u8; 16], n: usize, m: usize) -> MultidimensionalLut
     fill(&mut grid_strides, 1, sizes, n);
     let mut grid_filling_size = [1u32; 16];
     fill(&mut grid_filling_size, m as u32, sizes, n);
-    let size = sizes[0];
-    let grid_scale = scales((size - 1) as f32, n);
+    let mut grid_scale = [0.0f32; 16];
+    let mut grid_sizes = [0u8; 16];
+    fill_own(&mut grid_scale, &mut grid_sizes, sizes, n);
     MultidimensionalLut {
         grid_strides,
         grid_filling_size,
         grid_scale,
-        grid_size: size,
+        grid_sizes,
         input_inks: n,
         output_inks: m,
     }
@@ -177,7 +178,6 @@ pub fn filling_sizes(sizes: &[u8; 16], n: usize, m: usize, filling: &mut [u32; 1
 pub fn is_layout(lut: MultidimensionalLut) -> bool
     ensures { λ r. ⌜ Decides r (IsLayout lut) ⌝ }
 {
-    let size = lut.grid_size;
     let n = lut.input_inks;
     let m = lut.output_inks;
     if !is_count(n) {
@@ -186,14 +186,12 @@ pub fn is_layout(lut: MultidimensionalLut) -> bool
     if !is_count(m) {
         return false;
     }
-    if size == 0 {
-        return false;
-    }
     let strides = lut.grid_strides;
     let filling = lut.grid_filling_size;
     let scale = lut.grid_scale;
-    if !places::used(strides, filling, scale, size, n, m) {
+    let sizes = lut.grid_sizes;
+    if !places::used(strides, filling, scale, sizes, n, m) {
         return false;
     }
-    places::unused(strides, filling, scale, n)
+    places::unused(strides, filling, scale, sizes, n)
 }

@@ -1,10 +1,9 @@
-// Tests and products over the first sizes.
+// The total of the first sizes.
 ghost use mathlib.Core.Path.{_≡_};
 ghost use Prim.Native.Nat.{_+_, _*_, _≤_, min};
 ghost use lib.ListN.{take};
-ghost use lib.Dec.{ltb, eqb};
-ghost use Rattle.lists.specs.Lists.{every, product};
-ghost use Rattle.layout.specs.Layout.{limit, common};
+ghost use Rattle.lists.specs.Lists.{product};
+ghost use Rattle.layout.specs.Layout.{limit};
 ghost use Rattle.layout.specs.Tested.{Sixteen};
 
 // The largest total that is accepted.
@@ -15,37 +14,7 @@ pub(crate) fn sixteen(sizes: [u8; 16])
     ensures { λ r. ⌜ Sixteen sizes ⌝ }
 {}
 
-// Whether each of the first n sizes is above 0.
-pub(crate) fn above_zero(sizes: &[u8; 16], n: usize) -> bool
-    requires { ⌜ (n ≤ 16) × (Sixteen (now sizes)) ⌝ }
-    ensures { λ r. ⌜ r ≡ every (ltb 0) (take n (now (sizes .entry))) ⌝ }
-{
-    let mut i: usize = 0;
-    while i < n {
-        if sizes[i] == 0 {
-            return false;
-        }
-        i += 1;
-    }
-    true
-}
-
-// Whether each of the first n sizes is the first.
-pub(crate) fn equal(sizes: &[u8; 16], n: usize) -> bool
-    requires { ⌜ (n ≤ 16) × (Sixteen (now sizes)) ⌝ }
-    ensures { λ r. ⌜ r ≡ every (eqb (common (take n (now (sizes .entry))))) (take n (now (sizes .entry))) ⌝ }
-{
-    let mut i: usize = 0;
-    while i < n {
-        if sizes[i] != sizes[0] {
-            return false;
-        }
-        i += 1;
-    }
-    true
-}
-
-// m times the first n sizes, or LIMIT + 1 where that is above LIMIT: no product on the way overflows.
+// m times the first n sizes, or LIMIT + 1 where that is above LIMIT: no product on the way overflows. It is 0 where a size is.
 pub(crate) fn capped(sizes: &[u8; 16], n: usize, m: u64) -> u64
     requires { ⌜ (n ≤ 16) × (Sixteen (now sizes)) × (m ≤ limit) ⌝ }
     ensures { λ r. ⌜ r ≡ min (product (take n (now (sizes .entry))) * m) (limit + 1) ⌝ }

@@ -3,18 +3,18 @@
 use mathlib.Core.Path.{_≡_, refl, sym, _∙_, ap}
 use mathlib.Core.Bool.{Bool, true, false, _&&_, _||_, true≢false}
 use mathlib.Core.Logic.{_⊎_, inl, inr}
-use mathlib.Core.List.{List, [], _∷_, _++_, reverse, reverse-cons, reverse-append}
-use Prim.Native.Nat.{ℕ, zero, suc, _-_, _*_, _^_, _≤_, _<_, suc-le-suc}
-use native.Mathlib.Nat.{sub-zero, zero-sub, suc-sub-suc, mul-one, one-mul, mul-assoc, mul-pos, le-refl, mul-le-mul-left, le-of-suc-le-suc, not-suc-le-zero, pow-zero, pow-succ'}
-use native.Mathlib.Numerals.{add-one}
+use mathlib.Core.List.{List, [], _∷_, reverse, reverse-append}
+use Prim.Native.Nat.{ℕ, zero, suc, _+_, _-_, _*_, _≤_, _<_, suc-le-suc}
+use native.Mathlib.Nat.{mul-one, one-mul, mul-comm, mul-assoc, mul-pos, le-refl, le-trans, le-mul-of-pos-right, le-of-suc-le-suc, not-suc-le-zero}
 use native.Mathlib.Omega.{arith}
 use lib.Dec.{T, ltb, eqb, ltb→lt}
 use lib.Pow.{areBytes}
 use lib.Ieee.Fits.{and-l, and-r}
-use lib.ListN.{length, getD, take, drop, set, replicate, replicate-append-replicate}
-use lib.Seq.{length-take-le, getD-take, take-suc}
+use lib.Ieee.Positive.{first-pos}
+use lib.ListN.{length, getD, take, drop, set}
+use lib.Seq.{length-take-le, getD-take, take-suc, take-length}
 use borrow.Author.Tests.{ltb-true, eqb-true, lt-ltb}
-use Rattle.lists.specs.Lists.{tabulate, every, product}
+use Rattle.lists.specs.Lists.{tabulate, every, lastFirst, product}
 
 -- ---- tabulate
 
@@ -71,14 +71,9 @@ one-of m a b = go (eqb m a) (eqb m b) refl refl
     go false true p q h = inr (eqb-true m b q)
     go false false p q h = absurd (true≢false (sym h))
 
-and-not : (a b : Bool) → b ≡ false → (a && b) ≡ false
+pub and-not : (a b : Bool) → b ≡ false → (a && b) ≡ false
 and-not true b h = h
 and-not false b h = refl
-
-and-swap : (a b c : Bool) → (a && (b && c)) ≡ (b && (a && c))
-and-swap true b c = refl
-and-swap false true c = refl
-and-swap false false c = refl
 
 pub every-head : (p : ℕ → Bool) (x : ℕ) (xs : List ℕ) → every p (x ∷ xs) ≡ true → p x ≡ true
 unfolding every
@@ -98,39 +93,12 @@ unfolding every
 every-of p [] h = refl
 every-of p (x ∷ xs) h = and-true (p x) (every p xs) (h 0 (suc-le-suc (omega arith))) (every-of p xs (λ i l. h (suc i) (suc-le-suc l)))
 
-pub every-fails : (p : ℕ → Bool) (xs : List ℕ) (i : ℕ) → i < length xs → p (getD xs i 0) ≡ false → every p xs ≡ false
-unfolding every
-every-fails p [] i l h = absurd (not-suc-le-zero l)
-every-fails p (x ∷ xs) zero l h = rw h
-every-fails p (x ∷ xs) (suc i) l h = and-not (p x) (every p xs) (every-fails p xs i (le-of-suc-le-suc l) h)
-
-every-last : (p : ℕ → Bool) (xs : List ℕ) (x : ℕ) → every p (xs ++ (x ∷ [])) ≡ (p x && every p xs)
-unfolding every
-every-last p [] x = refl
-every-last p (y ∷ xs) x = rw (every-last p xs x) (and-swap (p y) (p x) (every p xs))
-
--- the order does not matter
-pub every-reverse : (p : ℕ → Bool) (xs : List ℕ) → every p (reverse xs) ≡ every p xs
-unfolding every
-every-reverse p [] = refl
-every-reverse p (x ∷ xs) = rw (reverse-cons x xs) (every-last p (reverse xs) x ∙ ap (λ (b : Bool). p x && b) (every-reverse p xs))
-
-pub every-replicate : (p : ℕ → Bool) (n a : ℕ) → p a ≡ true → every p (replicate n a) ≡ true
-unfolding every
-every-replicate p zero a h = refl
-every-replicate p (suc n) a h = and-true (p a) (every p (replicate n a)) h (every-replicate p n a h)
-
 -- of the first n elements
-module _ (p : ℕ → Bool) (xs : List ℕ) (n : ℕ) (in-xs : n ≤ length xs) where
-  pub first-every : ((i : ℕ) → i < n → p (getD xs i 0) ≡ true) → every p (take n xs) ≡ true
-  first-every h =
-      every-of p (take n xs) (λ i l.
-      let below : i < n = omega (arith, length-take-le n xs in-xs) in
-      rw (getD-take n xs i 0 below) (h i below))
-
-  pub first-fails : (i : ℕ) → i < n → p (getD xs i 0) ≡ false → every p (take n xs) ≡ false
-  first-fails i below h =
-      every-fails p (take n xs) i (omega (arith, length-take-le n xs in-xs)) (rw (getD-take n xs i 0 below) h)
+pub first-every : (p : ℕ → Bool) (xs : List ℕ) (n : ℕ) → n ≤ length xs → ((i : ℕ) → i < n → p (getD xs i 0) ≡ true) → every p (take n xs) ≡ true
+first-every p xs n in-xs h =
+    every-of p (take n xs) (λ i l.
+    let below : i < n = omega (arith, length-take-le n xs in-xs) in
+    rw (getD-take n xs i 0 below) (h i below))
 
 -- an entry of a list of bytes is one
 pub bytes-at : (xs : List ℕ) → T (areBytes xs) → (i : ℕ) → getD xs i 0 < 256
@@ -148,38 +116,45 @@ unfolding tabulate
 tabulate-bytes zero f each = tt
 tabulate-bytes (suc k) f each = simp (lt-ltb (f 0) 256 (each 0)) (tabulate-bytes k (λ i. f (suc i)) (λ i. each (suc i)))
 
--- every element is g: the list repeats it
-pub all-are : (g : ℕ) (xs : List ℕ) → every (eqb g) xs ≡ true → xs ≡ replicate (length xs) g
-all-are g [] h = refl
-all-are g (x ∷ xs) h =
-    let head : g ≡ x = eqb-true g x (every-head (eqb g) x xs h) in
-    let rest = all-are g xs (every-rest (eqb g) x xs h) in
+-- ---- the first elements, last first
+
+pub length-last-first : (n : ℕ) (xs : List ℕ) → length (lastFirst n xs) ≡ n
+unfolding lastFirst
+length-last-first zero xs = refl
+length-last-first (suc n) xs = ap suc (length-last-first n xs)
+
+pub last-first-same : (n : ℕ) (xs ys : List ℕ) → ((i : ℕ) → i < n → getD xs i 0 ≡ getD ys i 0) → lastFirst n xs ≡ lastFirst n ys
+unfolding lastFirst
+last-first-same zero xs ys h = refl
+last-first-same (suc n) xs ys h =
+    let head = h n (le-refl (suc n)) in
+    let rest = last-first-same n xs ys (λ i l. h i (omega arith)) in
     cc
 
-pub take-replicate : (n k a : ℕ) → n ≤ k → take n (replicate k a) ≡ replicate n a
-take-replicate zero k a h = refl
-take-replicate (suc n) zero a h = absurd (not-suc-le-zero h)
-take-replicate (suc n) (suc k) a h = ap (λ (l : List ℕ). a ∷ l) (take-replicate n k a (le-of-suc-le-suc h))
+-- the element at p is the one that p elements follow
+pub last-first-at : (n : ℕ) (xs : List ℕ) (p i : ℕ) → p + suc i ≡ n → getD (lastFirst n xs) p 0 ≡ getD xs i 0
+unfolding lastFirst
+last-first-at zero xs p i e = absurd (omega arith)
+last-first-at (suc n) xs zero i e = let same : n ≡ i = omega arith in rw same
+last-first-at (suc n) xs (suc p) i e = last-first-at n xs p i (omega arith)
 
-pub drop-replicate : (n k a : ℕ) → drop n (replicate k a) ≡ replicate (k - n) a
-drop-replicate zero k a = ap (λ (j : ℕ). replicate j a) (sym (sub-zero k))
-drop-replicate (suc n) zero a = ap (λ (j : ℕ). replicate j a) (sym (zero-sub (suc n)))
-drop-replicate (suc n) (suc k) a = drop-replicate n k a ∙ ap (λ (j : ℕ). replicate j a) (sym (suc-sub-suc k n))
-
-pub reverse-replicate : (n a : ℕ) → reverse (replicate n a) ≡ replicate n a
-reverse-replicate zero a = refl
-reverse-replicate (suc n) a =
-    reverse-cons a (replicate n a) ∙ ap (λ (l : List ℕ). l ++ (a ∷ [])) (reverse-replicate n a) ∙ replicate-append-replicate n 1 a ∙ ap (λ (k : ℕ). replicate k a) (add-one n)
+pub every-last-first : (p : ℕ → Bool) (n : ℕ) (xs : List ℕ) → ((i : ℕ) → i < n → p (getD xs i 0) ≡ true) → every p (lastFirst n xs) ≡ true
+unfolding every lastFirst
+every-last-first p zero xs h = refl
+every-last-first p (suc n) xs h = and-true _ _ (h n (le-refl (suc n))) (every-last-first p n xs (λ i l. h i (omega arith)))
 
 pub reverse-next : (xs : List ℕ) (j : ℕ) → j < length xs → reverse (take (suc j) xs) ≡ getD xs j 0 ∷ reverse (take j xs)
 reverse-next xs j h = rw (take-suc xs j 0 h, reverse-append)
 
--- ---- product
+pub reverse-first : (n : ℕ) (xs : List ℕ) → n ≤ length xs → reverse (take n xs) ≡ lastFirst n xs
+unfolding lastFirst
+reverse-first zero xs h = refl
+reverse-first (suc n) xs h = reverse-next xs n h ∙ ap (λ (l : List ℕ). getD xs n 0 ∷ l) (reverse-first n xs (omega arith))
 
-pub product-replicate : (n g : ℕ) → product (replicate n g) ≡ g ^ n
-unfolding product
-product-replicate zero g = sym (pow-zero g)
-product-replicate (suc n) g = ap (λ (x : ℕ). g * x) (product-replicate n g) ∙ sym (pow-succ' g n)
+pub reverse-all : (xs : List ℕ) → reverse xs ≡ lastFirst (length xs) xs
+reverse-all xs = ap reverse (sym (take-length xs)) ∙ reverse-first (length xs) xs (le-refl (length xs))
+
+-- ---- product
 
 pub product-take-suc : (xs : List ℕ) (i : ℕ) → i < length xs → product (take (suc i) xs) ≡ product (take i xs) * getD xs i 0
 unfolding product
@@ -188,14 +163,29 @@ product-take-suc (x ∷ xs) zero h = mul-one x ∙ sym (one-mul x)
 product-take-suc (x ∷ xs) (suc i) h =
     ap (λ (t : ℕ). x * t) (product-take-suc xs i (le-of-suc-le-suc h)) ∙ sym (mul-assoc x (product (take i xs)) (getD xs i 0))
 
+pub product-last-first : (n : ℕ) (xs : List ℕ) → n ≤ length xs → product (lastFirst n xs) ≡ product (take n xs)
+unfolding lastFirst product
+product-last-first zero xs h = refl
+product-last-first (suc n) xs h =
+    ap (λ (x : ℕ). getD xs n 0 * x) (product-last-first n xs (omega arith)) ∙ mul-comm (getD xs n 0) (product (take n xs)) ∙ sym (product-take-suc xs n h)
+
 pub product-pos : (xs : List ℕ) → every (ltb 0) xs ≡ true → 0 < product xs
 unfolding product
 product-pos [] h = omega arith
 product-pos (x ∷ xs) h = mul-pos (ltb-true 0 x (every-head (ltb 0) x xs h)) (product-pos xs (every-rest (ltb 0) x xs h))
 
-pub product-take-le : (xs : List ℕ) (i : ℕ) → every (ltb 0) xs ≡ true → product (take i xs) ≤ product xs
+-- and of a product above 0 each element is
+pub product-some : (xs : List ℕ) → 0 < product xs → every (ltb 0) xs ≡ true
+unfolding product every
+product-some [] h = refl
+product-some (x ∷ xs) h =
+    and-true (ltb 0 x) (every (ltb 0) xs) (lt-ltb 0 x (first-pos x (product xs) h)) (product-some xs (first-pos (product xs) x (omega (arith, mul-comm x (product xs)))))
+
+pub product-drop-le : (xs : List ℕ) (i : ℕ) → every (ltb 0) xs ≡ true → product (drop i xs) ≤ product xs
 unfolding product
-product-take-le [] zero h = le-refl 1
-product-take-le [] (suc i) h = le-refl 1
-product-take-le (x ∷ xs) zero h = product-pos (x ∷ xs) h
-product-take-le (x ∷ xs) (suc i) h = mul-le-mul-left x (product-take-le xs i (every-rest (ltb 0) x xs h))
+product-drop-le [] zero h = le-refl 1
+product-drop-le [] (suc i) h = le-refl 1
+product-drop-le (x ∷ xs) zero h = le-refl (x * product xs)
+product-drop-le (x ∷ xs) (suc i) h =
+    let some = ltb-true 0 x (every-head (ltb 0) x xs h) in
+    le-trans (product-drop-le xs i (every-rest (ltb 0) x xs h)) (omega (arith, le-mul-of-pos-right (product xs) some, mul-comm (product xs) x))

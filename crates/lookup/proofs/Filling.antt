@@ -11,11 +11,11 @@ use Rattle.cell.specs.declared.Cell.{Cell}
 use Rattle.lookup.specs.Places.{placedInk, furtherInks, cellAt, cellsAt}
 
 -- after i of them
-pub record Filled (filling : List ℕ) (g : ℕ) (xs : List Float) (low high : List ℕ) (w : List Float) (i : ℕ) : Type 0 where
+pub record Filled (filling sizes : List ℕ) (xs : List Float) (low high : List ℕ) (w : List Float) (i : ℕ) : Type 0 where
   pub lows : length low ≡ 12
   pub highs : length high ≡ 12
   pub weights : length w ≡ 12
-  pub standing : cellsAt low high w i ≡ furtherInks filling g xs i
+  pub standing : cellsAt low high w i ≡ furtherInks filling sizes xs i
 
 -- what is stored at place i changes no place before it
 cells-kept : (low high : List ℕ) (w : List Float) (i x xn : ℕ) (t : Float) (j : ℕ) → j ≤ i → cellsAt (set low i x) (set high i xn) (set w i t) j ≡ cellsAt low high w j
@@ -29,20 +29,20 @@ cells-kept low high w i x xn t (suc j) h =
     })
     (cells-kept low high w i x xn t j (omega arith))
 
-module _ (filling : List ℕ) (g : ℕ) (xs : List Float) (low high : List ℕ) (w : List Float) where
-  pub filled-none : length low ≡ 12 → length high ≡ 12 → length w ≡ 12 → Filled filling g xs low high w 0
+module _ (filling sizes : List ℕ) (xs : List Float) (low high : List ℕ) (w : List Float) where
+  pub filled-none : length low ≡ 12 → length high ≡ 12 → length w ≡ 12 → Filled filling sizes xs low high w 0
   filled-none l h n = record { lows = l; highs = h; weights = n; standing = refl }
 
   -- one turn
-  pub turn : (i : ℕ) (c : Cell) → i < 12 → c ≡ placedInk filling g xs (3 + i) → Filled filling g xs low high w i
-      → Filled filling g xs (set low i (c .x)) (set high i (c .«x_n»)) (set w i (c .w)) (i + 1)
+  pub turn : (i : ℕ) (c : Cell) → i < 12 → c ≡ placedInk filling sizes xs (3 + i) → Filled filling sizes xs low high w i
+      → Filled filling sizes xs (set low i (c .x)) (set high i (c .«x_n»)) (set w i (c .w)) (i + 1)
   turn i c room is old =
       record {
         lows = simp length-set (old .lows);
         highs = simp length-set (old .highs);
         weights = simp length-set (old .weights);
         standing =
-            rw (add-one i) (ap₂ (λ (c : Cell) (cs : List Cell). c ∷ cs) (here ∙ is ∙ ap (placedInk filling g xs) fourth) (cells-kept low high w i (c .x) (c .«x_n») (c .w) i (omega arith) ∙ old .standing));
+            rw (add-one i) (ap₂ (λ (c : Cell) (cs : List Cell). c ∷ cs) (here ∙ is ∙ ap (placedInk filling sizes xs) fourth) (cells-kept low high w i (c .x) (c .«x_n») (c .w) i (omega arith) ∙ old .standing));
       }
     where
       fourth : 3 + i ≡ suc (suc (suc i))

@@ -82,17 +82,17 @@ reach-over [] cs = sym (zero-add _)
 reach-over (h ∷ hs) cs = omega (arith, reach-over hs cs)
 
 -- the inks from the fourth on, above the first three
-pub further : (filling : List ℕ) (g : ℕ) (xs : List Float) (k : ℕ) → furtherInks filling g xs k ++ firstInks filling g xs 3 ≡ firstInks filling g xs (suc (suc (suc k)))
-further filling g xs zero = refl
-further filling g xs (suc k) = ap (λ (cs : List Cell). placedInk filling g xs (suc (suc (suc k))) ∷ cs) (further filling g xs k)
+pub further : (filling sizes : List ℕ) (xs : List Float) (k : ℕ) → furtherInks filling sizes xs k ++ firstInks filling sizes xs 3 ≡ firstInks filling sizes xs (suc (suc (suc k)))
+further filling sizes xs zero = refl
+further filling sizes xs (suc k) = ap (λ (cs : List Cell). placedInk filling sizes xs (suc (suc (suc k))) ∷ cs) (further filling sizes xs k)
 
 -- the fourth ink alone
-module _ (filling : List ℕ) (g : ℕ) (xs : List Float) (k : ℕ) (one : k ≡ 1) (h : Cell) (is : h ≡ placedInk filling g xs 3) where
-  one-further : furtherInks filling g xs k ≡ h ∷ []
-  one-further = ap (furtherInks filling g xs) one ∙ ap (λ (c : Cell). c ∷ []) (sym is)
+module _ (filling sizes : List ℕ) (xs : List Float) (k : ℕ) (one : k ≡ 1) (h : Cell) (is : h ≡ placedInk filling sizes xs 3) where
+  one-further : furtherInks filling sizes xs k ≡ h ∷ []
+  one-further = ap (furtherInks filling sizes xs) one ∙ ap (λ (c : Cell). c ∷ []) (sym is)
 
-  pub reach-fourth : reach (furtherInks filling g xs k) ≡ max (h .x) (h .«x_n»)
+  pub reach-fourth : reach (furtherInks filling sizes xs k) ≡ max (h .x) (h .«x_n»)
   reach-fourth = ap reach one-further ∙ add-zero _
 
-  pub above-fourth : (three : List Float → Float) (part : List Float) → lerp (three (drop (h .x) part)) (three (drop (h .«x_n») part)) (h .w) ≡ above three (furtherInks filling g xs k) part
+  pub above-fourth : (three : List Float → Float) (part : List Float) → lerp (three (drop (h .x) part)) (three (drop (h .«x_n») part)) (h .w) ≡ above three (furtherInks filling sizes xs k) part
   above-fourth three part = ap (λ (hs : List Cell). above three hs part) (sym one-further)

@@ -6,17 +6,16 @@ use mathlib.Core.List.{List, reverse}
 use native.Mathlib.Omega.{arith}
 use lib.Dec.{ltb, eqb}
 use lib.Ieee.{Float}
-use lib.ListN.{length, replicate, length-reverse}
+use lib.ListN.{length}
 use borrow.Author.Tests.{not-false, ltb-false, eqb-true, lt-ltb, le-ltb}
 use Rattle.outcome.specs.Outcome.{Decides}
 use Rattle.lists.specs.Buffer.{written}
-use Rattle.lists.specs.Lists.{every, product}
-use Rattle.lists.proofs.Lists.{every-reverse}
+use Rattle.lists.specs.Lists.{lastFirst, product}
 use Rattle.lists.proofs.Buffer.{unwritten}
 use Rattle.layout.specs.declared.MultidimensionalLut.{MultidimensionalLut}
 use Rattle.layout.specs.Layout.{IsLayout, inkSizes, entries}
 use Rattle.layout.specs.Order.{inGrid}
-use Rattle.layout.proofs.Order.{in-grid-equal}
+use Rattle.layout.proofs.Laws.{inks-to}
 use Rattle.lookup.specs.Table.{answerAt, refusal, Looked}
 use Rattle.lookup.specs.Node.{nodeRefusal, NodeRefused}
 use Rattle.lookup.specs.Places.{answerIn, tested, Answered, Checked}
@@ -99,14 +98,6 @@ module _ (lut : MultidimensionalLut) (table inputs old : List Float) (laid : Boo
 
 -- ---- a node
 
--- the code's test of the coordinates, which come first ink first
-pub in-grid-is : (lut : MultidimensionalLut) (coordinates : List ℕ) → length coordinates ≡ lut .«input_inks»
-    → inGrid (inkSizes lut) (reverse coordinates) ≡ every (λ k. ltb k (lut .«grid_size»)) coordinates
-in-grid-is lut coordinates e =
-    ap (λ (n : ℕ). inGrid (replicate n (lut .«grid_size»)) (reverse coordinates)) (sym e ∙ sym (length-reverse coordinates))
-    ∙ in-grid-equal (lut .«grid_size») (reverse coordinates)
-    ∙ every-reverse (λ k. ltb k (lut .«grid_size»)) coordinates
-
 module _ (lut : MultidimensionalLut) (table : List Float) (coordinates : List ℕ) (r : ℕ) where
   module _ (checked : Checked lut (length table) (length coordinates) r) where
     pub node-refused : (r ≡ 0 → ⊥) → NodeRefused lut table coordinates r
@@ -118,15 +109,21 @@ module _ (lut : MultidimensionalLut) (table : List Float) (coordinates : List �
           number = refused-by (checked .laid) (entries lut) (lut .«input_inks») (length table) (length coordinates) r (checked .number) some _;
         }
 
+    -- as many coordinates as inks
+    pub node-counted : r ≡ 0 → length coordinates ≤ 16
+    node-counted z =
+        let ok = passed (checked .laid) (entries lut) (lut .«input_inks») (length table) (length coordinates) r 0 (checked .number) z in
+        omega (arith, ok .as-many, inks-to lut (checked .decides .holds (ok .is)))
+
     -- with the coordinates tested too: 10 or 0
-    pub node-tested : r ≡ 0 → (inside : Bool) → inside ≡ every (λ k. ltb k (lut .«grid_size»)) coordinates → NodeRefused lut table coordinates (cond (not inside) 10 0)
+    pub node-tested : r ≡ 0 → (inside : Bool) → inside ≡ inGrid (lastFirst (length coordinates) (lut .«grid_sizes»)) (reverse coordinates) → NodeRefused lut table coordinates (cond (not inside) 10 0)
     unfolding nodeRefusal
     node-tested z inside e =
         let ok = passed (checked .laid) (entries lut) (lut .«input_inks») (length table) (length coordinates) r 0 (checked .number) z in
         record {
           laid = checked .laid;
           decides = checked .decides;
-          number = ap (λ (b : Bool). cond (not b) 10 0) (e ∙ sym (in-grid-is lut coordinates (ok .as-many))) ∙ ok .next _;
+          number = ap (λ (b : Bool). cond (not b) 10 0) (e ∙ ap (λ (n : ℕ). inGrid (lastFirst n (lut .«grid_sizes»)) (reverse coordinates)) (ok .as-many)) ∙ ok .next _;
         }
 
   module _ (refused : NodeRefused lut table coordinates r) (z : r ≡ 0) where

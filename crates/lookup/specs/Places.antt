@@ -6,10 +6,10 @@ use mathlib.Core.Bool.{Bool, true, false, not, cond}
 use mathlib.Core.List.{List, [], _∷_}
 use lib.Dec.{ltb, eqb}
 use lib.Ieee.{Float, nan, le}
-use lib.ListN.{length, getD, drop, replicate}
+use lib.ListN.{length, getD, drop}
 use Rattle.outcome.specs.Outcome.{Decides}
 use Rattle.binary32.specs.Blend.{lerp, terms, rise}
-use Rattle.lists.specs.Lists.{product}
+use Rattle.lists.specs.Lists.{lastFirst, product}
 use Rattle.lists.specs.Buffer.{left}
 use Rattle.cell.specs.declared.Cell.{Cell}
 use Rattle.layout.specs.declared.MultidimensionalLut.{MultidimensionalLut}
@@ -106,33 +106,33 @@ above three (h ∷ hs) part = lerp (above three hs (drop (h .x) part)) (above th
 abbrev pub answer : List Float → List Cell → ℕ → Float
 answer part cs o = lookup (within part o) cs
 
--- ---- a grid of g lines for each ink, with its filling sizes
+-- ---- a grid with a size and a filling size for each ink, first ink first
 
 -- ink i, counted from 0; the first n inks, last ink first; and the k inks from the fourth on
-abbrev pub placedInk : List ℕ → ℕ → List Float → ℕ → Cell
-placedInk filling g xs i = scale (getD filling i 0) (inkCell i g (getD xs i nan))
+abbrev pub placedInk : List ℕ → List ℕ → List Float → ℕ → Cell
+placedInk filling sizes xs i = scale (getD filling i 0) (inkCell i (getD sizes i 0) (getD xs i nan))
 
-abbrev pub firstInks : List ℕ → ℕ → List Float → ℕ → List Cell
-firstInks filling g xs zero = []
-firstInks filling g xs (suc i) = placedInk filling g xs i ∷ firstInks filling g xs i
+abbrev pub firstInks : List ℕ → List ℕ → List Float → ℕ → List Cell
+firstInks filling sizes xs zero = []
+firstInks filling sizes xs (suc i) = placedInk filling sizes xs i ∷ firstInks filling sizes xs i
 
-abbrev pub furtherInks : List ℕ → ℕ → List Float → ℕ → List Cell
-furtherInks filling g xs zero = []
-furtherInks filling g xs (suc i) = placedInk filling g xs (suc (suc (suc i))) ∷ furtherInks filling g xs i
+abbrev pub furtherInks : List ℕ → List ℕ → List Float → ℕ → List Cell
+furtherInks filling sizes xs zero = []
+furtherInks filling sizes xs (suc i) = placedInk filling sizes xs (suc (suc (suc i))) ∷ furtherInks filling sizes xs i
 
--- the filling sizes of the first n inks are of 32 bits
-abbrev pub Narrow : List ℕ → ℕ → Type 0
-Narrow filling n = (i : ℕ) → i < n → getD filling i 0 < 4_294_967_296
+-- the filling sizes of the first n inks are of 32 bits, and their sizes are bytes
+abbrev pub Narrow : List ℕ → List ℕ → ℕ → Type 0
+Narrow filling sizes n = (i : ℕ) → i < n → (getD filling i 0 < 4_294_967_296) × (getD sizes i 0 < 256)
 
 -- what an accepted layout of n inks and m outputs promises of them
-pub record Promised (filling : List ℕ) (g n m : ℕ) : Type 0 where
+pub record Promised (filling sizes : List ℕ) (n m : ℕ) : Type 0 where
   pub inks-from : 1 ≤ n
   pub inks-to : n ≤ 15
   pub outputs-to : m ≤ 15
-  pub size-from : 1 ≤ g
-  pub narrow : Narrow filling n
-  pub steps : Steps filling (replicate n g) m
-  pub whole : getD filling 0 0 * g ≡ product (replicate n g) * m
+  pub above : (i : ℕ) → i < n → 0 < getD sizes i 0
+  pub narrow : Narrow filling sizes n
+  pub steps : Steps filling (lastFirst n sizes) m
+  pub whole : getD filling 0 0 * getD sizes 0 0 ≡ product (lastFirst n sizes) * m
 
 -- the answer at output o in a table of the sizes gs, last ink first, with m outputs
 abbrev pub answerIn : List ℕ → ℕ → List Float → List Float → ℕ → Float

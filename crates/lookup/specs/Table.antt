@@ -48,7 +48,7 @@ pub record Looked (lut : MultidimensionalLut) (table inputs old : List Float) (r
   pub number : r ≡ refusal laid lut (length table) (length inputs) (length old)
   pub entries : now ≡ left r (answerAt lut table inputs) (lut .«output_inks») old
 
--- laid out by sizes and counts: 1 to 5, then 6, 7, 8. An accepted layout's record is a layout's, `true`: no 9 is given
+-- laid out by sizes and counts: 1, 2, 3, 5, then 6, 7, 8. An accepted layout's record is a layout's, `true`: no 9 is given
 abbrev pub refusalBySizes : List ℕ → ℕ → ℕ → ℕ → ℕ → ℕ → ℕ
 refusalBySizes sizes n m table inputs room = orElse (laidOf sizes n m .refusal) (refusal true (laidOf sizes n m .lut) table inputs room)
 

@@ -81,26 +81,26 @@ pub(crate) fn more(
     plan: &[usize; 7],
     r: &[f32; 3],
     filling: &[u32; 16],
-    g: u8,
+    sizes: &[u8; 16],
     inputs: &[f32],
     m: usize,
     out: &mut [f32],
 )
     requires count { ⌜ (4 ≤ length (now inputs)) × (length (now inputs) ≤ 15) × (m ≤ 15) ⌝ }
-    requires { ⌜ Narrow (now filling) (length (now inputs)) ⌝ }
-    requires inside { ⌜ Inside (now plan) (reach (furtherInks (now filling) g (now inputs) (length (now inputs) - 3)) + m) (length (now table)) ⌝ }
+    requires { ⌜ Narrow (now filling) (now sizes) (length (now inputs)) ⌝ }
+    requires inside { ⌜ Inside (now plan) (reach (furtherInks (now filling) (now sizes) (now inputs) (length (now inputs) - 3)) + m) (length (now table)) ⌝ }
     requires room { ⌜ m ≤ length (now out) ⌝ }
-    ensures { λ _. ⌜ now (out .exit) ≡ written (λ o. above (planned (now (plan .entry)) (now (r .entry)) o) (furtherInks (now (filling .entry)) g (now (inputs .entry)) (length (now (inputs .entry)) - 3)) (now (table .entry))) m (now (out .entry)) ⌝ }
+    ensures { λ _. ⌜ now (out .exit) ≡ written (λ o. above (planned (now (plan .entry)) (now (r .entry)) o) (furtherInks (now (filling .entry)) (now (sizes .entry)) (now (inputs .entry)) (length (now (inputs .entry)) - 3)) (now (table .entry))) m (now (out .entry)) ⌝ }
 {
     let k = inputs.len() - 3;
     if k == 1 {
-        let h = place::placed(filling, g, inputs, 3);
+        let h = place::placed(filling, sizes, inputs, 3);
         four(table, plan, r, h.x, h.x_n, h.w, m, out);
         return;
     }
     let mut low = [0usize; 12];
     let mut high = [0usize; 12];
     let mut w = [0.0f32; 12];
-    place::place(filling, g, inputs, k, &mut low, &mut high, &mut w);
+    place::place(filling, sizes, inputs, k, &mut low, &mut high, &mut w);
     blend(table, plan, r, &low, &high, &w, k, m, out);
 }

@@ -10,55 +10,62 @@ use layout::EntryOffset;
 use layout::MultidimensionalLut;
 ghost use mathlib.Core.Path.{_≡_};
 ghost use Prim.Native.Nat.{_*_, _≤_};
-ghost use lib.ListN.{length, replicate};
-ghost use Rattle.lists.specs.Lists.{product};
+ghost use lib.ListN.{length};
+ghost use Rattle.lists.specs.Lists.{lastFirst, product};
 ghost use Rattle.lists.specs.Buffer.{written};
 ghost use Rattle.lookup.specs.Node.{NodeRefused, NodePlaced, NodeShown};
 ghost use Rattle.lookup.specs.Places.{answerIn, Promised, Answered};
 ghost use Rattle.lookup.specs.Table.{Looked, LookedBySizes};
 
-// The m answers, in a grid of g lines for each ink, whose filling sizes are lent.
-fn write(filling: &[u32; 16], g: u8, m: usize, table: &[f32], inputs: &[f32], answer: &mut [f32])
-    requires { ⌜ Promised (now filling) g (length (now inputs)) m ⌝ }
-    requires { ⌜ product (replicate (length (now inputs)) g) * m ≤ length (now table) ⌝ }
+// The m answers, in a grid whose sizes and filling sizes are lent.
+fn write(
+    filling: &[u32; 16],
+    sizes: &[u8; 16],
+    m: usize,
+    table: &[f32],
+    inputs: &[f32],
+    answer: &mut [f32],
+)
+    requires { ⌜ Promised (now filling) (now sizes) (length (now inputs)) m ⌝ }
+    requires { ⌜ product (lastFirst (length (now inputs)) (now sizes)) * m ≤ length (now table) ⌝ }
     requires room { ⌜ m ≤ length (now answer) ⌝ }
-    ensures { λ _. ⌜ now (answer .exit) ≡ written (answerIn (replicate (length (now (inputs .entry))) g) m (now (table .entry)) (now (inputs .entry))) m (now (answer .entry)) ⌝ }
+    ensures { λ _. ⌜ now (answer .exit) ≡ written (answerIn (lastFirst (length (now (inputs .entry))) (now (sizes .entry))) m (now (table .entry)) (now (inputs .entry))) m (now (answer .entry)) ⌝ }
 {
     let n = inputs.len();
-    let c = place::placed(filling, g, inputs, 0);
+    let c = place::placed(filling, sizes, inputs, 0);
     if n == 1 {
         few::one(table, c, m, answer);
         return;
     }
-    let d = place::placed(filling, g, inputs, 1);
+    let d = place::placed(filling, sizes, inputs, 1);
     if n == 2 {
         few::two(table, c, d, m, answer);
         return;
     }
-    let e = place::placed(filling, g, inputs, 2);
+    let e = place::placed(filling, sizes, inputs, 2);
     let plan = plan::plan_of(c, d, e);
     let r = [c.w, d.w, e.w];
     if n == 3 {
         few::three(table, &plan, &r, m, answer);
         return;
     }
-    blend::more(table, &plan, &r, filling, g, inputs, m, answer);
+    blend::more(table, &plan, &r, filling, sizes, inputs, m, answer);
 }
 
 // After an accepted layout: 6 a short table, 7 the number of inputs, 8 a short answer buffer, and on 0 the answers.
 fn answered(
     filling: &[u32; 16],
-    g: u8,
+    sizes: &[u8; 16],
     n: usize,
     m: usize,
     table: &[f32],
     inputs: &[f32],
     answer: &mut [f32],
 ) -> u32
-    requires { ⌜ Promised (now filling) g n m ⌝ }
-    ensures { λ r. ⌜ Answered (replicate n g) n m (now (table .entry)) (now (inputs .entry)) (now (answer .entry)) r (now (answer .exit)) ⌝ }
+    requires { ⌜ Promised (now filling) (now sizes) n m ⌝ }
+    ensures { λ r. ⌜ Answered (lastFirst n (now (sizes .entry))) n m (now (table .entry)) (now (inputs .entry)) (now (answer .entry)) r (now (answer .exit)) ⌝ }
 {
-    let total = (filling[0] as u64) * (g as u64);
+    let total = (filling[0] as u64) * (sizes[0] as u64);
     let refusal = check::sized(total, n, table.len(), inputs.len());
     if refusal != 0 {
         return refusal;
@@ -66,7 +73,7 @@ fn answered(
     if answer.len() < m {
         return 8;
     }
-    write(filling, g, m, table, inputs, answer);
+    write(filling, sizes, m, table, inputs, answer);
     0
 }
 
@@ -78,13 +85,13 @@ pub fn lookup(lut: MultidimensionalLut, table: &[f32], inputs: &[f32], answer: &
         return 9;
     }
     let filling = lut.grid_filling_size;
-    let g = lut.grid_size;
+    let sizes = lut.grid_sizes;
     let n = lut.input_inks;
     let m = lut.output_inks;
-    answered(&filling, g, n, m, table, inputs, answer)
+    answered(&filling, &sizes, n, m, table, inputs, answer)
 }
 
-// Lays out, then looks up: 1 to 5, then 6, 7, 8. No record is made, so there is none to test.
+// Lays out, then looks up: 1, 2, 3, 5, then 6, 7, 8. No record is made, so there is none to test.
 pub fn lookup_by_sizes(
     sizes: &[u8; 16],
     n: usize,
@@ -100,7 +107,7 @@ pub fn lookup_by_sizes(
     if refusal != 0 {
         return refusal;
     }
-    answered(&filling, sizes[0], n, m, table, inputs, answer)
+    answered(&filling, sizes, n, m, table, inputs, answer)
 }
 
 // The number of a call of `node` on the same arguments.
@@ -111,8 +118,8 @@ pub fn node_refusal(lut: MultidimensionalLut, table: &[f32], coordinates: &[usiz
     if refusal != 0 {
         return refusal;
     }
-    let g = lut.grid_size as usize;
-    if !nodes::below(coordinates, g) {
+    let sizes = lut.grid_sizes;
+    if !nodes::below(coordinates, sizes) {
         return 10;
     }
     0

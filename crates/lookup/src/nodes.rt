@@ -5,20 +5,20 @@ use layout::NodeNumber;
 ghost use mathlib.Core.Path.{_≡_};
 ghost use mathlib.Core.Bool.{true};
 ghost use mathlib.Core.List.{reverse};
-ghost use Prim.Native.Nat.{_*_};
-ghost use lib.Dec.{ltb};
+ghost use Prim.Native.Nat.{_*_, _≤_};
 ghost use lib.ListN.{length};
-ghost use Rattle.lists.specs.Lists.{every};
-ghost use Rattle.layout.specs.Order.{index};
+ghost use Rattle.lists.specs.Lists.{lastFirst};
+ghost use Rattle.layout.specs.Order.{index, inGrid};
 ghost use Rattle.layout.specs.Layout.{IsLayout, inkSizes};
 
-// Whether each coordinate is below g.
-pub(crate) fn below(coordinates: &[usize], g: usize) -> bool
-    ensures { λ r. ⌜ r ≡ every (λ k. ltb k g) (now (coordinates .entry)) ⌝ }
+// Whether each coordinate is below the size of its ink.
+pub(crate) fn below(coordinates: &[usize], sizes: [u8; 16]) -> bool
+    requires { ⌜ length (now coordinates) ≤ 16 ⌝ }
+    ensures { λ r. ⌜ r ≡ inGrid (lastFirst (length (now (coordinates .entry))) sizes) (reverse (now (coordinates .entry))) ⌝ }
 {
     let mut i = 0;
     while i < coordinates.len() {
-        if g <= coordinates[i] {
+        if (sizes[i] as usize) <= coordinates[i] {
             return false;
         }
         i += 1;
@@ -30,7 +30,7 @@ pub(crate) fn below(coordinates: &[usize], g: usize) -> bool
 fn number(lut: MultidimensionalLut, coordinates: &[usize]) -> NodeNumber
     requires { ⌜ IsLayout lut ⌝ }
     requires { ⌜ length (now coordinates) ≡ lut .«input_inks» ⌝ }
-    requires { ⌜ every (λ k. ltb k (lut .«grid_size»)) (now coordinates) ≡ true ⌝ }
+    requires { ⌜ inGrid (inkSizes lut) (reverse (now coordinates)) ≡ true ⌝ }
     ensures { λ r. ⌜ r .0 ≡ index (inkSizes lut) (reverse (now (coordinates .entry))) ⌝ }
 {
     let strides = lut.grid_strides;
@@ -47,7 +47,7 @@ fn number(lut: MultidimensionalLut, coordinates: &[usize]) -> NodeNumber
 pub(crate) fn first_entry(lut: MultidimensionalLut, coordinates: &[usize]) -> EntryOffset
     requires { ⌜ IsLayout lut ⌝ }
     requires { ⌜ length (now coordinates) ≡ lut .«input_inks» ⌝ }
-    requires { ⌜ every (λ k. ltb k (lut .«grid_size»)) (now coordinates) ≡ true ⌝ }
+    requires { ⌜ inGrid (inkSizes lut) (reverse (now coordinates)) ≡ true ⌝ }
     ensures { λ r. ⌜ r .0 ≡ index (inkSizes lut) (reverse (now (coordinates .entry))) * lut .«output_inks» ⌝ }
 {
     let node = number(lut, coordinates);

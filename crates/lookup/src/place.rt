@@ -17,12 +17,12 @@ fn ink_cell(i: usize, x: f32, g: u8) -> Cell
 }
 
 // The cell of ink i, counted from 0, with its nodes as distances in entries.
-pub(crate) fn placed(filling: &[u32; 16], g: u8, inputs: &[f32], i: usize) -> Cell
+pub(crate) fn placed(filling: &[u32; 16], sizes: &[u8; 16], inputs: &[f32], i: usize) -> Cell
     requires { ⌜ (i < 16) × (i < length (now inputs)) ⌝ }
-    requires { ⌜ Narrow (now filling) (length (now inputs)) ⌝ }
-    ensures { λ r. ⌜ r ≡ placedInk (now (filling .entry)) g (now (inputs .entry)) i ⌝ }
+    requires { ⌜ Narrow (now filling) (now sizes) (length (now inputs)) ⌝ }
+    ensures { λ r. ⌜ r ≡ placedInk (now (filling .entry)) (now (sizes .entry)) (now (inputs .entry)) i ⌝ }
 {
-    let c = ink_cell(i, inputs[i], g);
+    let c = ink_cell(i, inputs[i], sizes[i]);
     let s = filling[i] as usize;
     Cell {
         x: c.x * s,
@@ -34,7 +34,7 @@ pub(crate) fn placed(filling: &[u32; 16], g: u8, inputs: &[f32], i: usize) -> Ce
 // The cells of k inks from the fourth on: each one's lower and upper node, as distances in entries, and its weight.
 pub(crate) fn place(
     filling: &[u32; 16],
-    g: u8,
+    sizes: &[u8; 16],
     inputs: &[f32],
     k: usize,
     low: &mut [usize; 12],
@@ -42,13 +42,13 @@ pub(crate) fn place(
     w: &mut [f32; 12],
 )
     requires { ⌜ (k ≤ 12) × (k + 3 ≤ length (now inputs)) ⌝ }
-    requires { ⌜ Narrow (now filling) (length (now inputs)) ⌝ }
+    requires { ⌜ Narrow (now filling) (now sizes) (length (now inputs)) ⌝ }
     requires room { ⌜ (length (now low) ≡ 12) × (length (now high) ≡ 12) × (length (now w) ≡ 12) ⌝ }
-    ensures { λ _. ⌜ cellsAt (now (low .exit)) (now (high .exit)) (now (w .exit)) k ≡ furtherInks (now (filling .entry)) g (now (inputs .entry)) k ⌝ }
+    ensures { λ _. ⌜ cellsAt (now (low .exit)) (now (high .exit)) (now (w .exit)) k ≡ furtherInks (now (filling .entry)) (now (sizes .entry)) (now (inputs .entry)) k ⌝ }
 {
     let mut i = 0;
     while i < k {
-        let c = placed(filling, g, inputs, 3 + i);
+        let c = placed(filling, sizes, inputs, 3 + i);
         low[i] = c.x;
         high[i] = c.x_n;
         w[i] = c.w;

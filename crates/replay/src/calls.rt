@@ -7,11 +7,10 @@ use cell::Cell;
 use layout::MultidimensionalLut;
 
 pub(crate) fn lookup(text: &[u8], from: usize, table: &mut [f32]) -> usize {
-    let mut head = [0usize; 5];
-    let at = words::words(text, from, &mut head);
-    let entries = floats::table(text, at, table);
+    let asked = record::asked(text, from);
+    let entries = floats::table(text, asked.next, table);
     let t = floats::fitting(entries.count, table);
-    look(record::asked(head), &table[..t], text, entries.next)
+    look(asked.lut, &table[..t], text, entries.next)
 }
 
 // The inputs and the buffer of a lookup, and the lookup.
@@ -33,32 +32,25 @@ fn answer(lut: MultidimensionalLut, table: &[f32], inputs: &[f32], buffer: &mut 
     print::end();
 }
 
-fn sizes(head: &[usize; 18]) -> [u8; 16] {
-    let mut sizes = [0u8; 16];
-    let mut i: usize = 0;
-    while i < 16 {
-        sizes[i] = words::low_byte(head[i]);
-        i += 1;
-    }
-    sizes
-}
-
 pub(crate) fn places(lut: MultidimensionalLut) {
     let strides = lut.grid_strides;
     let filling = lut.grid_filling_size;
     let scale = lut.grid_scale;
+    let sizes = lut.grid_sizes;
     print::words(&strides);
     print::words(&filling);
     print::floats(&scale);
-    print::word(lut.grid_size as u32);
+    print::bytes(&sizes);
     print::word(words::low_word(lut.input_inks));
     print::word(words::low_word(lut.output_inks));
 }
 
 pub(crate) fn layout(text: &[u8], from: usize) -> usize {
-    let mut head = [0usize; 18];
-    let next = words::words(text, from, &mut head);
-    let laid = layout::layout(sizes(&head), head[16], head[17]);
+    let mut sizes = [0u8; 16];
+    let mut counts = [0usize; 2];
+    let at = words::bytes(text, from, &mut sizes);
+    let next = words::words(text, at, &mut counts);
+    let laid = layout::layout(sizes, counts[0], counts[1]);
     print::number(laid.refusal as u64);
     places(laid.lut);
     print::end();
@@ -66,20 +58,13 @@ pub(crate) fn layout(text: &[u8], from: usize) -> usize {
 }
 
 pub(crate) fn node(text: &[u8], from: usize, table: &mut [f32]) -> usize {
-    let mut head = [0usize; 5];
-    let at = words::words(text, from, &mut head);
-    let entries = floats::table(text, at, table);
+    let asked = record::asked(text, from);
+    let entries = floats::table(text, asked.next, table);
     let t = floats::fitting(entries.count, table);
     let count = words::word(text, entries.next);
     let mut ks = [0usize; 128];
     let c = words::fitting(count.value as usize, &ks);
-    show(
-        record::asked(head),
-        &table[..t],
-        &mut ks[..c],
-        text,
-        count.next,
-    )
+    show(asked.lut, &table[..t], &mut ks[..c], text, count.next)
 }
 
 // The coordinates of a node, and the node.

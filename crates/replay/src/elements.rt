@@ -17,19 +17,6 @@ fn fitting(count: usize, buffer: &[u8]) -> usize
     buffer.len()
 }
 
-// The next words as the bytes of a buffer, and the place after them.
-fn bytes(text: &[u8], from: usize, into: &mut [u8]) -> usize {
-    let mut next = from;
-    let mut i = 0;
-    while i < into.len() {
-        let w = words::word(text, next);
-        into[i] = words::low_byte(w.value as usize);
-        next = w.next;
-        i += 1;
-    }
-    next
-}
-
 pub(crate) fn clut(text: &[u8], from: usize, table: &mut [f32]) -> usize {
     let mut head = [0usize; 2];
     let at = words::words(text, from, &mut head);
@@ -57,7 +44,7 @@ fn show(
     text: &[u8],
     from: usize,
 ) -> usize {
-    let next = bytes(text, from, element);
+    let next = words::bytes(text, from, element);
     let laid = clut::read_clut(element, n, m, entries);
     print::number(laid.refusal as u64);
     calls::places(laid.lut);

@@ -28,6 +28,14 @@ pub(crate) fn words(part: &[u32]) {
     }
 }
 
+pub(crate) fn bytes(part: &[u8]) {
+    let mut i = 0;
+    while i < part.len() {
+        word(part[i] as u32);
+        i += 1;
+    }
+}
+
 pub(crate) fn floats(part: &[f32]) {
     let mut i = 0;
     while i < part.len() {

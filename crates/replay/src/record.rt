@@ -2,12 +2,18 @@
 use crate::words;
 use layout::MultidimensionalLut;
 
-// Places 0 to 15 are the strides, 16 to 31 the filling sizes, 32 to 47 the scales, then g, n and m.
+// A record, and the place after its words.
+pub(crate) struct Record {
+    pub lut: MultidimensionalLut,
+    pub next: usize,
+}
+
+// Places 0 to 15 are the strides, 16 to 31 the filling sizes, 32 to 47 the scales, 48 to 63 the sizes, then n and m.
 fn changed(lut: MultidimensionalLut, place: usize, value: usize) -> MultidimensionalLut {
     let mut strides = lut.grid_strides;
     let mut filling = lut.grid_filling_size;
     let mut scale = lut.grid_scale;
-    let mut size = lut.grid_size;
+    let mut sizes = lut.grid_sizes;
     let mut inputs = lut.input_inks;
     let mut outputs = lut.output_inks;
     let word = words::low_word(value);
@@ -17,35 +23,39 @@ fn changed(lut: MultidimensionalLut, place: usize, value: usize) -> Multidimensi
         filling[place - 16] = word;
     } else if place < 48 {
         scale[place - 32] = patterns::float(word);
-    } else if place == 48 {
-        size = words::low_byte(value);
-    } else if place == 49 {
+    } else if place < 64 {
+        sizes[place - 48] = words::low_byte(value);
+    } else if place == 64 {
         inputs = value;
-    } else if place == 50 {
+    } else if place == 65 {
         outputs = value;
     }
     MultidimensionalLut {
         grid_strides: strides,
         grid_filling_size: filling,
         grid_scale: scale,
-        grid_size: size,
+        grid_sizes: sizes,
         input_inks: inputs,
         output_inks: outputs,
     }
 }
 
-// g, n, m, a place and its value.
-pub(crate) fn asked(w: [usize; 5]) -> MultidimensionalLut {
-    let g = words::low_byte(w[0]);
-    let laid = layout::layout([g; 16], w[1], w[2]);
-    changed(laid.lut, w[3], w[4])
+// The layout's record of sixteen sizes, n and m; then a place of it and its value.
+pub(crate) fn asked(text: &[u8], from: usize) -> Record {
+    let mut sizes = [0u8; 16];
+    let mut rest = [0usize; 4];
+    let at = words::bytes(text, from, &mut sizes);
+    let next = words::words(text, at, &mut rest);
+    let laid = layout::layout(sizes, rest[0], rest[1]);
+    let lut = changed(laid.lut, rest[2], rest[3]);
+    Record { lut, next }
 }
 
 // A record whose places are listed one by one.
-pub(crate) fn listed(places: &[usize; 51]) -> MultidimensionalLut {
+pub(crate) fn listed(places: &[usize; 66]) -> MultidimensionalLut {
     let mut lut = layout::refused(0).lut;
     let mut i: usize = 0;
-    while i < 51 {
+    while i < 66 {
         lut = changed(lut, i, places[i]);
         i += 1;
     }

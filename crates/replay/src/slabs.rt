@@ -6,7 +6,7 @@ use crate::words;
 use layout::MultidimensionalLut;
 
 pub(crate) fn slab(text: &[u8], from: usize, table: &mut [f32]) -> usize {
-    let mut head = [0usize; 51];
+    let mut head = [0usize; 66];
     let at = words::words(text, from, &mut head);
     let entries = floats::table(text, at, table);
     let t = floats::fitting(entries.count, table);

@@ -54,6 +54,19 @@ pub(crate) fn words(text: &[u8], from: usize, into: &mut [usize]) -> usize {
     next
 }
 
+// The next words as the bytes of a buffer, and the place after them.
+pub(crate) fn bytes(text: &[u8], from: usize, into: &mut [u8]) -> usize {
+    let mut next = from;
+    let mut i = 0;
+    while i < into.len() {
+        let w = word(text, next);
+        into[i] = low_byte(w.value as usize);
+        next = w.next;
+        i += 1;
+    }
+    next
+}
+
 // The count, or the length of a buffer where that is less.
 pub(crate) fn fitting(count: usize, buffer: &[usize]) -> usize
     ensures { λ r. ⌜ (r ≤ length (now (buffer .entry))) × (r ≡ length (take r (now (buffer .entry)))) ⌝ }

@@ -8,8 +8,8 @@ use lib.ListN.{length, getD}
 use Rattle.outcome.specs.Outcome.{OneOutcome}
 use Rattle.outcome.proofs.Decided.{decided}
 use Rattle.lists.specs.Buffer.{left}
-use Rattle.layout.specs.Layout.{entries, fewer}
-use Rattle.slab.specs.Slab.{slab, refusal}
+use Rattle.layout.specs.Layout.{entries}
+use Rattle.slab.specs.Slab.{fewer, slab, refusal}
 use Rattle.slab.proofs.cut_slab.Kinds as cut-slab-kinds
 use Rattle.slab.proofs.cut_slab.Reads as cut-slab-reads
 
@@ -25,7 +25,7 @@ cut-slab-unique κs a x y ws vs p q =
     ∙ ap (λ (b : Bool). refusal b lut (length table) j k (length old)) (decided (p .laid) (q .laid) (p .decides) (q .decides))
     ∙ sym (q .number) in
     let now : ws .1 .1 .1 .1 .0 ≡ vs .1 .1 .1 .1 .0 =
-    p .entries ∙ ap (λ (r : ℕ). left r (λ e. getD (slab lut table j k) e nan) (entries (fewer lut)) old) number ∙ sym (q .entries) in
+    p .entries ∙ ap (λ (r : ℕ). left r (λ e. getD (slab lut table j k) e nan) (entries (fewer lut j)) old) number ∙ sym (q .entries) in
     (number, ap (λ (l : List Float). (tt, (tt, (tt, (tt, (l, tt)))))) now)
 
 -- no `requires`

@@ -1,10 +1,14 @@
 -- A list with an element put in, and without one.
 -- Assumes nothing.
-use Prim.Native.Nat.{ℕ, zero, suc, _≤_, _<_}
-use mathlib.Core.Path.{_≡_, refl, ap}
+use Prim.Native.Nat.{ℕ, zero, suc, _+_, _*_, _≤_, _<_}
+use mathlib.Core.Path.{_≡_, refl, ap, ap₂, _∙_}
+use mathlib.Core.Bool.{Bool, true}
 use mathlib.Core.List.{List, [], _∷_}
-use native.Mathlib.Nat.{le-of-suc-le-suc, not-suc-le-zero}
-use lib.ListN.{length, getD, replicate}
+use native.Mathlib.Nat.{le-of-suc-le-suc, not-suc-le-zero, mul-left-comm}
+use native.Mathlib.Omega.{arith}
+use lib.ListN.{length, getD}
+use Rattle.lists.specs.Lists.{every, lastFirst, product}
+use Rattle.lists.proofs.Lists.{and-true, every-head, every-rest, last-first-same}
 use Rattle.slab.specs.Slab.{insert, without}
 
 module _ {A : Type 0} where
@@ -29,15 +33,32 @@ module _ {A : Type 0} where
   getD-without-from (suc p) (x ∷ xs) zero d h = absurd (not-suc-le-zero h)
   getD-without-from (suc p) (x ∷ xs) (suc i) d h = getD-without-from p xs i d (le-of-suc-le-suc h)
 
-  pub without-replicate : (p n : ℕ) (a : A) → p ≤ n → without p (replicate (suc n) a) ≡ replicate n a
-  unfolding without
-  without-replicate zero n a h = refl
-  without-replicate (suc p) zero a h = absurd (not-suc-le-zero h)
-  without-replicate (suc p) (suc n) a h = ap (λ (l : List A). a ∷ l) (without-replicate p n a (le-of-suc-le-suc h))
-
   -- what is taken out, put in again
   pub insert-without : (p : ℕ) (xs : List A) (d : A) → p < length xs → insert p (getD xs p d) (without p xs) ≡ xs
   unfolding insert without
   insert-without p [] d h = absurd (not-suc-le-zero h)
   insert-without zero (x ∷ xs) d h = refl
   insert-without (suc p) (x ∷ xs) d h = ap (λ (l : List A). x ∷ l) (insert-without p xs d (le-of-suc-le-suc h))
+
+-- ---- lists of numbers
+
+-- the element at place i of the first elements is, last first, the one that p elements stand before
+pub without-last-first : (xs : List ℕ) (n i p : ℕ) → i + p ≡ n → lastFirst n (without i xs) ≡ without p (lastFirst (suc n) xs)
+unfolding lastFirst without
+without-last-first xs n i zero e = last-first-same n (without i xs) xs (λ q l. getD-without-below i xs q 0 (omega arith))
+without-last-first xs zero i (suc p) e = absurd (omega arith)
+without-last-first xs (suc n) i (suc p) e =
+    ap₂ (λ (x : ℕ) (l : List ℕ). x ∷ l) (getD-without-from i xs n 0 (omega arith)) (without-last-first xs n i p (omega arith))
+
+pub every-without : (p : ℕ → Bool) (xs : List ℕ) (i : ℕ) → every p xs ≡ true → every p (without i xs) ≡ true
+unfolding every without
+every-without p [] i h = refl
+every-without p (x ∷ xs) zero h = every-rest p x xs h
+every-without p (x ∷ xs) (suc i) h = and-true (p x) _ (every-head p x xs h) (every-without p xs i (every-rest p x xs h))
+
+-- the product of all is that of the others times the element
+pub product-part : (xs : List ℕ) (i : ℕ) → i < length xs → product xs ≡ getD xs i 0 * product (without i xs)
+unfolding product without
+product-part [] i h = absurd (not-suc-le-zero h)
+product-part (x ∷ xs) zero h = refl
+product-part (x ∷ xs) (suc i) h = ap (λ (y : ℕ). x * y) (product-part xs i (le-of-suc-le-suc h)) ∙ mul-left-comm x (getD xs i 0) (product (without i xs))

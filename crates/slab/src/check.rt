@@ -19,7 +19,7 @@ fn no_cut(j: usize, n: usize) -> bool
     n == 1
 }
 
-// The number of a cut: the first refusal that applies, and 0 where none does. The slab is one line's share of the whole table.
+// The number of a cut: the first refusal that applies, and 0 where none does. The slab is the share of one of ink j's lines.
 pub(crate) fn refused(
     lut: MultidimensionalLut,
     table: usize,
@@ -39,7 +39,8 @@ pub(crate) fn refused(
     if no_cut(j, lut.input_inks) {
         return 11;
     }
-    let lines = lut.grid_size;
+    let sizes = lut.grid_sizes;
+    let lines = sizes[j - 1];
     if (lines as usize) <= k {
         return 12;
     }

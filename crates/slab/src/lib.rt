@@ -1,4 +1,4 @@
-// Cutting out a slab: document 02, E1. The meaning is in specs/Slab.antt.
+// Cutting out a slab: document 02, E1, with a size for each ink (E5). The meaning is in specs/Slab.antt.
 mod check;
 mod runs;
 
@@ -22,7 +22,8 @@ pub fn cut_slab(
     }
     let filling = lut.grid_filling_size;
     let run = filling[j - 1] as usize;
-    let lines = lut.grid_size as usize;
+    let sizes = lut.grid_sizes;
+    let lines = sizes[j - 1] as usize;
     let turns = (layout::entry_count(lut) as usize) / (run * lines);
     runs::cut(table, run, lines, k, turns, slab);
     0

@@ -14,10 +14,10 @@ use Rattle.lists.specs.Buffer.{left}
 use Rattle.layout.specs.declared.MultidimensionalLut.{MultidimensionalLut}
 use Rattle.layout.specs.declared.Laid.{Laid}
 use Rattle.layout.specs.Order.{index}
-use Rattle.layout.specs.Layout.{laidOf, IsLayout, inkSizes, entries, fewer}
+use Rattle.layout.specs.Layout.{laidOf, IsLayout, inkSizes, entries}
 use Rattle.layout.proofs.BySizes.{laid-is-layout, laid-outputs}
 use Rattle.lookup.specs.Node.{nodeRefusal, NodeRefused, NodePlaced}
-use Rattle.slab.specs.Slab.{slab, refusal, SlabCut}
+use Rattle.slab.specs.Slab.{fewer, slab, refusal, SlabCut}
 use Rattle.tenahvar.specs.Slab.{slabNumber, SlabTaken}
 use Rattle.tenahvar.specs.Node.{nodeNumber, NodeFound}
 
@@ -66,5 +66,5 @@ module _ (sizes : List ℕ) (n m : ℕ) (laid : Laid) (answer : laid ≡ laidOf 
       after-layout (λ lut. refusal true lut (length table) j k (length old)) r (cut .number ∙ ap (λ (b : Bool). refusal b (laid .lut) (length table) j k (length old)) (cut .decides .found is)) in
       record {
         number = number;
-        entries = cut .entries ∙ (λ i. left (number i) (λ e. getD (slab (answer i .lut) table j k) e nan) (entries (fewer (answer i .lut))) old);
+        entries = cut .entries ∙ (λ i. left (number i) (λ e. getD (slab (answer i .lut) table j k) e nan) (entries (fewer (answer i .lut) j)) old);
       }

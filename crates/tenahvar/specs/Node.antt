@@ -10,7 +10,7 @@ use Rattle.layout.specs.Order.{index}
 use Rattle.layout.specs.Layout.{laidOf, inkSizes}
 use Rattle.lookup.specs.Node.{nodeRefusal}
 
--- 1 to 5, then 6, 7, 10
+-- 1, 2, 3, 5, then 6, 7, 10
 abbrev pub nodeNumber : List ℕ → ℕ → ℕ → ℕ → List ℕ → ℕ
 nodeNumber sizes n m table coordinates = orElse (laidOf sizes n m .refusal) (nodeRefusal true (laidOf sizes n m .lut) table coordinates)
 

@@ -43,7 +43,7 @@ fn laid_out(sizes: [u8; 16], n: usize, m: usize) -> Laid
     layout::layout(sizes, n, m)
 }
 
-// Lays out, then looks up: refusals 1 to 5, then 6, 7, 8. On 0 the first m entries of `answer` are set.
+// Lays out, then looks up: refusals 1, 2, 3, 5, then 6, 7, 8. On 0 the first m entries of `answer` are set.
 #[no_mangle]
 pub extern "C" fn tenahvar_lookup(
     sizes: &[u8; 16],
@@ -58,7 +58,7 @@ pub extern "C" fn tenahvar_lookup(
     lookup::lookup_by_sizes(sizes, n, m, table, inputs, answer)
 }
 
-// Lays out, then finds the node: refusals 1 to 5, then 6, 7, 10. On 0 `offset` is where its m entries start in the table.
+// Lays out, then finds the node: refusals 1, 2, 3, 5, then 6, 7, 10. On 0 `offset` is where its m entries start in the table.
 #[no_mangle]
 pub extern "C" fn tenahvar_node(
     sizes: &[u8; 16],
@@ -84,8 +84,8 @@ pub extern "C" fn tenahvar_node(
     0
 }
 
-// Lays out, then cuts out a slab: refusals 1 to 5, then 6, 11, 12, 8. On 0 the table with ink j, counted from 1, on line k, counted from 0, stands in the
-// first entries of `slab`; it is looked up with the same sizes and one ink fewer.
+// Lays out, then cuts out a slab: refusals 1, 2, 3, 5, then 6, 11, 12, 8. On 0 the table with ink j, counted from 1, on line k, counted from 0, stands in the
+// first entries of `slab`; it is looked up with the other inks' sizes and one ink fewer.
 #[no_mangle]
 pub extern "C" fn tenahvar_cut_slab(
     sizes: &[u8; 16],
@@ -105,7 +105,7 @@ pub extern "C" fn tenahvar_cut_slab(
     slab::cut_slab(whole.lut, table, j, k, slab)
 }
 
-// Reads a CLUT element: refusals 13, 1 to 5, 14, 15, 8. On 0 `sizes` is the element's and the first total places of `entries` are set;
+// Reads a CLUT element: refusals 13, 1, 2, 3, 5, 14, 15, 8. On 0 `sizes` is the record's and the first total places of `entries` are set;
 // with them the profile is no longer needed.
 #[no_mangle]
 pub extern "C" fn tenahvar_read_clut(
@@ -121,7 +121,9 @@ pub extern "C" fn tenahvar_read_clut(
     if read.refusal != 0 {
         return read.refusal;
     }
-    *sizes = clut::sizes_of(element);
+    let lut = read.lut;
+    let grid_sizes = lut.grid_sizes;
+    *sizes = grid_sizes;
     0
 }
 

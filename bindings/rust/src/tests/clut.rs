@@ -25,8 +25,7 @@ fn a_clut_of_either_precision() {
     for (bytes, most) in cases {
         let mut entries = [UNTOUCHED; 10];
         let grid = read_clut(&bytes, 2, 2, &mut entries).unwrap();
-        assert_eq!(grid.sizes[..], bytes[..16]);
-        assert_eq!((grid.n, grid.m, grid.total()), (2, 2, Ok(8)));
+        assert_eq!((grid, grid.total()), (Grid::new(2, 2, 2), Ok(8)));
         let width = bytes[16] as usize;
         for (value, entry) in bytes[20..].chunks(width).zip(entries) {
             let value = value.iter().fold(0, |v, &b| v * 256 + b as u32);
@@ -54,12 +53,12 @@ fn refused_cluts_write_nothing() {
         (good.clone(), 2, 0, 8, 2),
         (good.clone(), 2, 16, 8, 2),
         (with(1, 0), 2, 2, 8, 3),
-        (with(1, 3), 2, 2, 8, 4),
         (vec![4; 20], 15, 4, 0, 5),
         (with(16, 0)[..20].to_vec(), 2, 2, 0, 14),
         (with(16, 3), 2, 2, 8, 14),
         (good[..27].to_vec(), 2, 2, 0, 15),
         (with(16, 2), 2, 2, 8, 15),
+        (with(1, 3), 2, 2, 8, 15),
         (good.clone(), 2, 2, 7, 8),
     ];
     for (bytes, n, m, room, number) in cases {

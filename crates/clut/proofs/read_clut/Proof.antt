@@ -31,7 +31,7 @@ is-layout c =
 total-is : (c : tie.After-entry-count) → let a = c .before .before .before .before .before .before .before .before .args in c .entry-count .result ≡ totalOf (a .element .now) (a .n) (a .m)
 total-is c =
     c .entry-count .ensures
-    ∙ ap (λ (l : Laid). getD (l .lut .«grid_filling_size») 0 0 * l .lut .«grid_size») (laid (c .before .before .before))
+    ∙ ap (λ (l : Laid). getD (l .lut .«grid_filling_size») 0 0 * getD (l .lut .«grid_sizes») 0 0) (laid (c .before .before .before))
     ∙ first-filling _ (is-layout (c .before))
 
 -- the part from place 20 on is the data

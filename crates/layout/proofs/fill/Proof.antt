@@ -17,8 +17,8 @@ use Rattle.layout.proofs.fill.Tie as tie
 abbrev Inv-loop : tie.InvT-loop
 Inv-loop row₀ first sizes n value₀ i₀ row value i =
     (i ≤ n)
-    × (value ≡ first * running (take n sizes) n i)
-    × (row ≡ filledFrom n (λ j. first * stride (take n sizes) n j) 1 i)
+    × (value ≡ first * running (take n sizes) i)
+    × (row ≡ filledFrom n (λ j. first * stride (take n sizes) j) 1 i)
 
 abbrev μ-loop : tie.MeasureT-loop
 μ-loop row₀ first sizes n value₀ i₀ row value i = i
@@ -45,22 +45,21 @@ module _ (c : tie.In-loop Inv-loop μ-loop) where
   used-length = length-take-le n sizes (omega (arith, start .pre .few, start .pre .known .sixteen))
 
   -- the running value is that of the ink whose place is filled
-  value-is : c .before .loop .value ≡ start .args .first * stride used n (i - 1)
-  value-is = c .before .loop .inv .1 ∙ ap (λ (x : ℕ). start .args .first * x) (running-stride used n used-length i (omega arith) (omega arith))
+  value-is : c .before .loop .value ≡ start .args .first * stride used (i - 1)
+  value-is = c .before .loop .inv .1 ∙ ap (λ (x : ℕ). start .args .first * x) (running-stride used i (omega arith))
 
-  -- and the next one that times the next size
-  next-is : c .before .loop .value * getD sizes (n - (i - 1) - 1) 0 ≡ start .args .first * running used n (i - 1)
+  -- and the next one that times the ink's size
+  next-is : c .before .loop .value * getD sizes (i - 1) 0 ≡ start .args .first * running used (i - 1)
   next-is =
-      let same : n - (i - 1) - 1 ≡ n - i = omega arith in
-      let size : getD sizes (n - (i - 1) - 1) 0 ≡ getD used (n - i) 0 = ap (λ (k : ℕ). getD sizes k 0) same ∙ sym (getD-take n sizes (n - i) 0 (omega arith)) in
+      let size : getD sizes (i - 1) 0 ≡ getD used (i - 1) 0 = sym (getD-take n sizes (i - 1) 0 (omega arith)) in
       (λ k. c .before .loop .inv .1 k * size k)
-      ∙ mul-assoc (start .args .first) (running used n i) (getD used (n - i) 0)
-      ∙ ap (λ (x : ℕ). start .args .first * x) (sym (running-next used n used-length i (omega arith) (omega arith)))
+      ∙ mul-assoc (start .args .first) (running used i) (getD used (i - 1) 0)
+      ∙ ap (λ (x : ℕ). start .args .first * x) (sym (running-next used i (omega arith) (omega (arith, used-length))))
 
-  next-fits : c .before .loop .value * getD sizes (n - (i - 1) - 1) 0 ≤ limit
+  next-fits : c .before .loop .value * getD sizes (i - 1) 0 ≤ limit
   next-fits =
       let first = start .args .first in
-      omega (arith, next-is, mul-comm first (running used n (i - 1)), product-fits used (n - (i - 1)) first first (start .pre .above) (le-refl first) (start .pre .within))
+      omega (arith, next-is, mul-comm first (running used (i - 1)), product-fits used (i - 1) first first (start .pre .above) (le-refl first) (start .pre .within))
 
 again : tie.Need-loop-again Inv-loop μ-loop
 again c =
@@ -69,7 +68,7 @@ again c =
     let some : 0 < i turn = omega arith in (
       search needs,
       next-is turn,
-      rw (inv .2, value-is turn) (filled-next (n turn) (λ j. start turn .args .first * stride (used turn) (n turn) j) 1 (i turn) some (inv .0)),
+      rw (inv .2, value-is turn) (filled-next (n turn) (λ j. start turn .args .first * stride (used turn) j) 1 (i turn) some (inv .0)),
     )
 
 filled : tie.Need-returns Inv-loop μ-loop
@@ -89,9 +88,7 @@ fill-spec =
     (λ c. omega (arith, start c .pre .few))
     (λ c. omega (arith, start c .pre .few))
     (λ c. omega (arith, start c .pre .few))
-    (λ c. omega arith)
-    (λ c. omega (arith, start c .pre .few))
-    (λ c. omega (arith, bytes-at (sizes (c .before)) (start (c .before) .pre .known .bytes) (n (c .before) - (i (c .before) - 1) - 1)))
+    (λ c. omega (arith, bytes-at (sizes (c .before)) (start (c .before) .pre .known .bytes) (i (c .before) - 1)))
     (λ c. omega (arith, next-fits (c .before)))
     (λ c. search needs)
     again

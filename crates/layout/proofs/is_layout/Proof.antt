@@ -1,21 +1,28 @@
 -- `layout::is_layout` meets its contract: each test is a part of what the record of an accepted layout is.
 -- Assumes nothing.
-use Prim.Native.Nat.{_≤_, _<_}
+use Prim.Native.Nat.{ℕ, _≤_, _<_}
 use mathlib.Core.Path.{_≡_, sym, _∙_}
 use mathlib.Core.Bool.{true}
-use native.Mathlib.Nat.{pos-of-ne-zero}
 use native.Mathlib.Omega.{arith}
-use lib.ListN.{length}
+use lib.ListN.{getD}
+use mir.Syntax.{w8}
+use mir.Val.{Fits}
 use borrow.Author.Needs.{needs}
 use borrow.Author.Tests.{not-false}
 use Rattle.layout.specs.Layout.{isCount}
 use Rattle.outcome.proofs.Decided.{refuses, not-both}
+use Rattle.lists.proofs.Lists.{are-bytes}
 use Rattle.layout.proofs.Parts.{count-to}
-use Rattle.layout.proofs.Accepted.{accepted-equal}
-use Rattle.layout.proofs.Facts.{facts-of, layout-of, used-at, unused-at, facts-are}
-use Rattle.layout.proofs.Laws.{size-from}
+use Rattle.layout.proofs.Facts.{Arrays, facts-of, layout-of, used-at, unused-at, facts-are}
 use Rattle.layout.proofs.is_layout.Statement.{statement}
 use Rattle.layout.proofs.is_layout.Tie as tie
+
+size-fits : (c : tie.Start) (i : ℕ) → getD (c .args .lut .«grid_sizes») i 0 < 256
+size-fits c i = let narrow : Fits w8 (getD (c .args .lut .«grid_sizes») i 0) = search needs in omega arith
+
+arrays : (c : tie.Start) → Arrays (c .args .lut)
+arrays c =
+    record { strides = search needs; filling = search needs; scale = search needs; sizes = search needs; bytes = are-bytes (c .args .lut .«grid_sizes») (size-fits c) }
 
 n-counts : (c : tie.Else1) → isCount (c .before .before .args .lut .«input_inks») ≡ true
 n-counts c = sym (c .before .is-count .ensures) ∙ not-false _ (c .if1 .left)
@@ -23,26 +30,18 @@ n-counts c = sym (c .before .is-count .ensures) ∙ not-false _ (c .if1 .left)
 m-counts : (c : tie.Else2) → isCount (c .before .before .before .before .args .lut .«output_inks») ≡ true
 m-counts c = sym (c .before .is-count2 .ensures) ∙ not-false _ (c .if2 .left)
 
-above : (c : tie.Else3) → 0 < c .before .before .before .before .before .args .lut .«grid_size»
-above c = pos-of-ne-zero (c .if3 .left)
+counted : (c : tie.Else2) → (c .before .before .before .before .args .lut .«input_inks» ≤ 15) × (c .before .before .before .before .args .lut .«output_inks» ≤ 15)
+counted c = (count-to _ (n-counts (c .before .before)), count-to _ (m-counts c))
 
-counted : (c : tie.Else3) → (c .before .before .before .before .before .args .lut .«input_inks» ≤ 15) × (c .before .before .before .before .before .args .lut .«output_inks» ≤ 15)
-counted c = (count-to _ (n-counts (c .before .before .before)), count-to _ (m-counts (c .before)))
-
-answer : tie.Need-returns-5
+answer : tie.Need-returns-4
 answer c =
     let used = c .before .before in
-    let else3 = used .before .before .before .before in
-    let start = else3 .before .before .before .before .before in
+    let else2 = used .before .before .before .before .before in
+    let start = else2 .before .before .before .before in
     let lut = start .args .lut in
-    let tested = used .used .ensures .holds (not-false _ (c .before .if4 .left)) in
-    let ok = accepted-equal (lut .«grid_size») (lut .«input_inks») (lut .«output_inks») (n-counts (else3 .before .before .before)) (m-counts (else3 .before)) (above else3) (tested .1) in
-    let byte : lut .«grid_size» < 256 = omega (arith, start) in
-    let strides : length (lut .«grid_strides») ≡ 16 = search needs in
-    let filling : length (lut .«grid_filling_size») ≡ 16 = search needs in
-    let scale : length (lut .«grid_scale») ≡ 16 = search needs in
+    let tested = used .used .ensures .holds (not-false _ (c .before .if3 .left)) in
     record {
-      holds = λ e. layout-of lut (facts-are lut byte ok strides filling scale (tested .0) (c .unused .ensures .holds e));
+      holds = λ e. layout-of lut (facts-are lut (arrays start) (n-counts (else2 .before .before)) (m-counts else2) (tested .1) (tested .0) (c .unused .ensures .holds e));
       found = λ is. c .unused .ensures .found (unused-at lut (facts-of lut is));
     }
 
@@ -54,8 +53,7 @@ is-layout-spec =
     (λ c. refuses (λ is. not-both _ (c .if1 .taken) (c .before .is-count .ensures ∙ facts-of _ is .accepted .n-counts)))
     (λ c κs. search needs)
     (λ c. refuses (λ is. not-both _ (c .if2 .taken) (c .before .is-count2 .ensures ∙ facts-of _ is .accepted .m-counts)))
-    (λ c. refuses (λ is. let some = size-from _ is in omega arith))
-    (λ c κs. let else3 = c .before .before .before in (omega (arith, counted else3 .0), counted else3 .1, above else3))
-    (λ c. refuses (λ is. let facts = facts-of _ is in not-both _ (c .if4 .taken) (c .before .used .ensures .found (used-at _ facts, facts .accepted .within))))
-    (λ c κs. omega (arith, counted (c .before .before .before .before .before) .0))
+    (λ c κs. let else2 = c .before .before .before .before in (omega (arith, counted else2 .0), counted else2 .1))
+    (λ c. refuses (λ is. let facts = facts-of _ is in not-both _ (c .if3 .taken) (c .before .used .ensures .found (used-at _ facts, facts .accepted .within))))
+    (λ c κs. omega (arith, counted (c .before .before .before .before .before .before) .0))
     answer)

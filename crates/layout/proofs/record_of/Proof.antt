@@ -2,8 +2,7 @@
 -- Assumes nothing.
 use native.Mathlib.Nat.{le-refl}
 use native.Mathlib.Omega.{arith}
-use borrow.Author.Needs.{needs}
-use Rattle.layout.proofs.Rows.{counts-few, outputs-from, first-above, row-fills, record-is}
+use Rattle.layout.proofs.Rows.{counts-few, outputs-from, row-fills, record-is}
 use Rattle.layout.proofs.record_of.Statement.{statement}
 use Rattle.layout.proofs.record_of.Tie as tie
 
@@ -14,11 +13,8 @@ record-of-spec =
     (λ c κs. row-fills _ _ _ (c .before .pre) 1 (outputs-from _ _ _ (c .before .pre)))
     (λ c. omega (arith, counts-few _ _ _ (c .before .before .before .pre)))
     (λ c κs. row-fills _ _ _ (c .before .before .before .pre) _ (le-refl _))
-    (λ c. search needs)
-    (λ c. first-above _ _ _ (c .before .before .before .before .before .pre))
-    (λ c. search needs)
-    (λ c κs. omega (arith, counts-few _ _ _ (c .before .before .before .before .before .before .pre)))
+    (λ c κs. let start = c .before .before .before .before .before .before in row-fills _ _ _ (start .pre) 1 (outputs-from _ _ _ (start .pre)))
     (λ c.
     let filled2 = c .before .before .before in
     let filled1 = filled2 .before .before in
-    record-is _ _ _ (filled1 .before .before .pre) _ _ _ (filled1 .fill .ensures) (filled2 .fill2 .ensures) (c .scales .ensures)))
+    record-is _ _ _ (filled1 .before .before .pre) _ _ _ _ (filled1 .fill .ensures) (filled2 .fill2 .ensures) (c .fill-own .ensures .0) (c .fill-own .ensures .1)))

@@ -3,18 +3,21 @@
 use Prim.Native.Nat.{ℕ, _+_, _≤_, _<_}
 use mathlib.Core.Path.{_≡_, refl, sym, ap, _∙_}
 use mathlib.Core.Bool.{Bool, true, false, cond}
-use native.Mathlib.Nat.{min-eq-right, min-le-left}
+use mathlib.Core.List.{List}
+use native.Mathlib.Nat.{min-eq-right, min-le-left, mul-pos, pos-of-ne-zero}
 use native.Mathlib.Decide.{decLe}
 use native.Mathlib.Omega.{arith}
-use lib.Dec.{ltb, eqb}
+use lib.Dec.{ltb}
+use lib.Ieee.Positive.{first-pos}
 use lib.ListN.{take}
 use borrow.Author.Needs.{needs}
 use borrow.Author.Tests.{not-true, not-false, lt-ltb, le-ltb}
-use Rattle.lists.specs.Lists.{every}
-use Rattle.layout.specs.Layout.{limit, total, common, isCount, refusedBy, laidUsing, laidOf}
+use Rattle.lists.specs.Lists.{every, product}
+use Rattle.lists.proofs.Lists.{product-pos, product-some}
+use Rattle.layout.specs.Layout.{limit, total, isCount, refusedBy, laidUsing, laidOf}
 use Rattle.layout.specs.Tested.{Tested}
 use Rattle.layout.specs.declared.Laid.{Laid}
-use Rattle.layout.proofs.Parts.{count-to}
+use Rattle.layout.proofs.Parts.{count-from, count-to}
 use Rattle.layout.proofs.refusal_of.Statement.{statement}
 use Rattle.layout.proofs.refusal_of.Tie as tie
 
@@ -31,21 +34,31 @@ n-counts c = sym (c .before .is-count .ensures) ∙ not-false _ (c .if1 .left)
 m-counts : (c : tie.Else2) → isCount (c .before .before .before .before .before .before .args .m) ≡ true
 m-counts c = sym (c .before .is-count2 .ensures) ∙ not-false _ (c .if2 .left)
 
-above : (c : tie.Else3) →
-    let args = c .before .before .before .before .before .before .before .before .args in
-    every (ltb 0) (take (args .n) (args .sizes .now)) ≡ true
-above c = sym (c .before .above-zero .ensures) ∙ not-false _ (c .if3 .left)
-
-same : (c : tie.Else4) →
-    let args = c .before .before .before .before .before .before .before .before .before .before .args in
-    every (eqb (common (take (args .n) (args .sizes .now)))) (take (args .n) (args .sizes .now)) ≡ true
-same c = sym (c .before .equal .ensures) ∙ not-false _ (c .if4 .left)
-
--- ---- what the last test tells
+-- ---- what the total tells, cut to one above the limit
 
 module _ (c : tie.After-capped) where
+  abbrev used : List ℕ
+  used = let args = c .before .before .before .before .before .before .before .args in take (args .n) (args .sizes .now)
+
+  abbrev m : ℕ
+  m = c .before .before .before .before .before .before .before .args .m
+
   abbrev all : ℕ
-  all = let args = c .before .before .before .before .before .before .before .before .before .before .before .args in total (take (args .n) (args .sizes .now)) (args .m)
+  all = total used m
+
+  -- some size is 0
+  none : c .capped .result ≡ 0 → every (ltb 0) used ≡ false
+  none e = go (every (ltb 0) used) refl
+    where
+      go : (b : Bool) → every (ltb 0) used ≡ b → b ≡ false
+      go true above = absurd (omega (arith, e, c .capped .ensures, mul-pos (product-pos used above) (count-from m (m-counts (c .before)))))
+      go false above = refl
+
+  -- no size is
+  some : (c .capped .result ≡ 0 → ⊥) → every (ltb 0) used ≡ true
+  some ne =
+      let more : 0 < all = omega (arith, pos-of-ne-zero ne, c .capped .ensures, min-le-left all (limit + 1)) in
+      product-some used (first-pos (product used) m more)
 
   above-limit : limit < c .capped .result → ltb limit all ≡ true
   above-limit h = lt-ltb limit all (omega (arith, c .capped .ensures, min-le-left all (limit + 1)))
@@ -77,39 +90,28 @@ refused-3 : tie.Need-returns-3
 unfolding laidOf laidUsing refusedBy
 refused-3 c =
     let at = c .before .before in
-    let fails = sym (c .before .above-zero .ensures) ∙ not-true _ (c .if3 .taken) in
-    record { known = at .before .before .before .before .sixteen .ensures; number = sym (simp (n-counts (at .before .before), m-counts at, fails)) }
-
-refused-4 : tie.Need-returns-4
-unfolding laidOf laidUsing refusedBy
-refused-4 c =
-    let at = c .before .before in
-    let fails = sym (c .before .equal .ensures) ∙ not-true _ (c .if4 .taken) in
-    record {
-      known = at .before .before .before .before .before .before .sixteen .ensures;
-      number = sym (simp (n-counts (at .before .before .before .before), m-counts (at .before .before), above at, fails));
-    }
+    record { known = at .before .before .before .before .sixteen .ensures; number = sym (simp (n-counts (at .before .before), m-counts at, none (c .before) (c .if3 .taken))) }
 
 -- with every test before it passed, the number is the last test's
-by-last : (c : tie.After-capped) (r : ℕ) → cond (ltb limit (all c)) 5 0 ≡ r →
-    let args = c .before .before .before .before .before .before .before .before .before .before .before .args in
+by-last : (c : tie.Else3) (r : ℕ) → cond (ltb limit (all (c .before))) 5 0 ≡ r →
+    let args = c .before .before .before .before .before .before .before .before .args in
     Tested (args .sizes .now) (args .n) (args .m) r
 unfolding laidOf laidUsing
 by-last c r e =
-    let at = c .before in
+    let at = c .before .before in
     record {
-      known = at .before .before .before .before .before .before .before .before .sixteen .ensures;
+      known = at .before .before .before .before .sixteen .ensures;
       number =
           sym
-          (simp (n-counts (at .before .before .before .before .before .before), m-counts (at .before .before .before .before), above (at .before .before), same at)
-          (refusal-or (ltb limit (all c)) 5 _ ∙ e));
+          (simp (n-counts (at .before .before), m-counts at, some (c .before) (c .if3 .left))
+          (refusal-or (ltb limit (all (c .before))) 5 _ ∙ e));
     }
 
-refused-5 : tie.Need-returns-5
-refused-5 c = by-last (c .before) 5 (ap (λ (b : Bool). cond b 5 0) (above-limit (c .before) (c .if5 .taken)))
+refused-5 : tie.Need-returns-4
+refused-5 c = by-last (c .before) 5 (ap (λ (b : Bool). cond b 5 0) (above-limit (c .before .before) (c .if4 .taken)))
 
-accepted : tie.Need-returns-6
-accepted c = by-last (c .before) 0 (ap (λ (b : Bool). cond b 5 0) (within-limit (c .before) (c .if5 .left)))
+accepted : tie.Need-returns-5
+accepted c = by-last (c .before) 0 (ap (λ (b : Bool). cond b 5 0) (within-limit (c .before .before) (c .if4 .left)))
 
 pub refusal-of-spec : {M : Type 1} → statement M
 refusal-of-spec =
@@ -120,14 +122,11 @@ refusal-of-spec =
     refused-1
     (λ c κs. search needs)
     refused-2
-    (λ c κs. (omega (arith, count-to _ (n-counts (c .before .before))), c .before .before .before .before .sixteen .ensures))
-    refused-3
-    (λ c κs. (omega (arith, count-to _ (n-counts (c .before .before .before .before))), c .before .before .before .before .before .before .sixteen .ensures))
-    refused-4
     (λ c κs. (
-      omega (arith, count-to _ (n-counts (c .before .before .before .before .before .before))),
-      c .before .before .before .before .before .before .before .before .sixteen .ensures,
-      omega (arith, count-to _ (m-counts (c .before .before .before .before))),
+      omega (arith, count-to _ (n-counts (c .before .before))),
+      c .before .before .before .before .sixteen .ensures,
+      omega (arith, count-to _ (m-counts c)),
     ))
+    refused-3
     refused-5
     accepted)

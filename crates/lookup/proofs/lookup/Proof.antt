@@ -14,7 +14,7 @@ lookup-spec =
     (tie.spec
     (λ c κs. tt)
     (λ c. let s = c .before .before .before .before .before in looked-refused (s .args .lut) (s .args .table .now) (s .args .inputs .now) (s .args .answer .now) _ (c .before .is-layout .ensures) (c .if1 .taken))
-    (λ c κs. laid-of _ (c .before .before .before .before .is-layout .ensures .holds (not-false _ (c .before .before .before .if1 .left))))
+    (λ c κs. laid-of _ (c .before .before .before .before .before .before .is-layout .ensures .holds (not-false _ (c .before .before .before .before .before .if1 .left))))
     (λ c. ap length (c .before .before .answered .ensures .entries) ∙ length-left (c .before .before .answered .result) _ _ _)
-    (λ c. let s = c .before .before .before .before .before .before .before .before .before .before .before in
-    looked-answered (s .args .lut) (s .args .table .now) (s .args .inputs .now) (s .args .answer .now) _ (c .before .before .before .before .before .before .before .is-layout .ensures) (not-false _ (c .before .before .before .before .before .before .if1 .left)) _ _ (c .before .before .answered .ensures)))
+    (λ c. let s = c .before .before .before .before .before .before .before .before .before .before .before .before .before in
+    looked-answered (s .args .lut) (s .args .table .now) (s .args .inputs .now) (s .args .answer .now) _ (c .before .before .before .before .before .before .before .before .before .is-layout .ensures) (not-false _ (c .before .before .before .before .before .before .before .before .if1 .left)) _ _ (c .before .before .answered .ensures)))

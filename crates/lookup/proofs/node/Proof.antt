@@ -1,7 +1,7 @@
 -- `lookup::node` meets its contract: the node's entries where the number is 0, else an empty part. Assumes nothing.
 use native.Mathlib.Omega.{arith}
-use mathlib.Core.Path.{refl, sym, _∙_}
-use Rattle.lookup.proofs.Refusals.{node-passed, node-layout, node-inside, in-grid-is}
+use mathlib.Core.Path.{refl}
+use Rattle.lookup.proofs.Refusals.{node-passed, node-layout, node-inside}
 use Rattle.lookup.proofs.Shown.{shown-nothing, node-stands, shown-node}
 use Rattle.lookup.proofs.node.Statement.{statement}
 use Rattle.lookup.proofs.node.Tie as tie
@@ -15,7 +15,7 @@ node-spec =
     (λ c. let s = c .before .before .before .before .before in shown-nothing (s .args .lut) (s .args .table .now) (s .args .coordinates .now) _ (c .before .before .node-refusal .ensures) (c .before .if1 .taken))
     (λ c κs. let s = c .before .before .before .before in
     let ok = node-passed (s .args .lut) (s .args .table .now) (s .args .coordinates .now) _ (c .before .node-refusal .ensures) (c .if1 .left) in
-    (node-layout (s .args .lut) (s .args .table .now) (s .args .coordinates .now) _ (c .before .node-refusal .ensures) (c .if1 .left), (ok .as-many, sym (in-grid-is (s .args .lut) (s .args .coordinates .now) (ok .as-many)) ∙ node-inside (s .args .lut) (s .args .table .now) (s .args .coordinates .now) _ (c .before .node-refusal .ensures) (c .if1 .left))))
+    (node-layout (s .args .lut) (s .args .table .now) (s .args .coordinates .now) _ (c .before .node-refusal .ensures) (c .if1 .left), (ok .as-many, node-inside (s .args .lut) (s .args .table .now) (s .args .coordinates .now) _ (c .before .node-refusal .ensures) (c .if1 .left))))
     (λ c. let s = c .before .before .before .before .before in omega (arith, c .first-entry .ensures, node-stands (s .args .lut) (s .args .table .now) (s .args .coordinates .now) _ (c .before .before .node-refusal .ensures) (c .before .if1 .left)))
     (λ c. let s = c .before .before .before .before .before in omega (arith, c .first-entry .ensures, node-stands (s .args .lut) (s .args .table .now) (s .args .coordinates .now) _ (c .before .before .node-refusal .ensures) (c .before .if1 .left)))
     (λ c. let s = c .before .before .before .before .before in omega (arith, c .first-entry .ensures, node-stands (s .args .lut) (s .args .table .now) (s .args .coordinates .now) _ (c .before .before .node-refusal .ensures) (c .before .if1 .left)))

@@ -1,9 +1,8 @@
 -- `lookup::node_refusal` meets its contract: each number is that of the first test that fails. Assumes nothing.
 use mathlib.Core.Path.{subst}
 use mathlib.Core.Bool.{Bool, cond}
-use borrow.Author.Needs.{needs}
 use Rattle.lookup.specs.Node.{NodeRefused}
-use Rattle.lookup.proofs.Refusals.{node-refused, node-tested}
+use Rattle.lookup.proofs.Refusals.{node-refused, node-counted, node-tested}
 use Rattle.lookup.proofs.node_refusal.Statement.{statement}
 use Rattle.lookup.proofs.node_refusal.Tie as tie
 
@@ -14,8 +13,7 @@ node-refusal-spec =
     (λ c κs. tt)
     (λ c. let s = c .before .before .before .before in
     node-refused (s .args .lut) (s .args .table .now) (s .args .coordinates .now) _ (c .before .refused .ensures) (c .if1 .taken))
-    (λ c. search needs)
-    (λ c κs. tt)
+    (λ c κs. let s = c .before .before .before .before .before in node-counted (s .args .lut) (s .args .table .now) (s .args .coordinates .now) _ (c .before .before .refused .ensures) (c .before .if1 .left))
     (λ c. let s = c .before .before .before .before .before .before .before in
     subst (λ (out : Bool). NodeRefused (s .args .lut) (s .args .table .now) (s .args .coordinates .now) (cond out 10 0)) (c .if2 .taken)
     (node-tested (s .args .lut) (s .args .table .now) (s .args .coordinates .now) _ (c .before .before .before .before .refused .ensures) (c .before .before .before .if1 .left) (c .before .below .result) (c .before .below .ensures)))

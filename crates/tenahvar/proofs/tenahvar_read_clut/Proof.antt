@@ -1,8 +1,9 @@
 -- `tenahvar::tenahvar_read_clut` meets its contract: the number and the table are those of the reading. Assumes nothing.
-use mathlib.Core.Path.{_≡_, sym, _∙_}
+use mathlib.Core.Path.{_≡_, sym, ap, _∙_}
 use lib.ListN.{length}
 use borrow.Author.Needs.{needs}
 use Rattle.outcome.proofs.Refused.{kept, given}
+use Rattle.layout.specs.declared.Laid.{Laid}
 use Rattle.clut.proofs.Reading.{clut-number, clut-length}
 use Rattle.clut.specs.Clut.{refusal}
 use Rattle.tenahvar.proofs.tenahvar_read_clut.Statement.{statement}
@@ -22,7 +23,8 @@ tenahvar-read-clut-spec =
     (λ c. same-length (c .before .before .before .before))
     (λ c. let is = number (c .before .before .before .before) in
     record { number = is; sizes = kept _ _ _ (c .if1 .taken) is; table = c .before .before .before .before .read-clut .ensures .table })
-    (λ c κs. search needs)
-    (λ c. same-length (c .before .before .before .before .before))
-    (λ c. let done = sym (c .before .if1 .left) ∙ number (c .before .before .before .before .before) in
-    record { number = done; sizes = c .sizes-of .ensures ∙ given _ _ _ done; table = c .before .before .before .before .before .read-clut .ensures .table }))
+    (λ c. same-length (c .before .before .before .before .before .before))
+    (λ c. let read = c .before .before .before .before .before .before in
+    let done = sym (c .before .before .if1 .left) ∙ number read in
+    let answer = read .read-clut .ensures .answer ∙ sym (given _ _ _ done) in
+    record { number = done; sizes = ap (λ (l : Laid). l .lut .«grid_sizes») answer ∙ given _ _ _ done; table = read .read-clut .ensures .table }))

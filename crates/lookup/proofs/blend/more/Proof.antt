@@ -19,11 +19,11 @@ more-spec =
     (λ c. omega arith)
     (λ c κs. let s = c .before .before .before .before in ((omega arith, omega arith), s .pre .1 .0))
     (λ c κs. let s = c .before .before .before .before .before .before in
-    let fourth = reach-fourth (s .args .filling .now) (s .args .g) (s .args .inputs .now) (length (s .args .inputs .now) - 3) (omega arith) _ (c .before .placed .ensures) in
+    let fourth = reach-fourth (s .args .filling .now) (s .args .sizes .now) (s .args .inputs .now) (length (s .args .inputs .now) - 3) (omega arith) _ (c .before .placed .ensures) in
     (s .pre .0 .2, (λ j. omega (arith, s .pre .1 .1 .0 j, fourth), s .pre .1 .1 .1)))
     (λ c. same-room _ _ _ _ (c .before .before .four .ensures))
     (λ c. let s = c .before .before .before .before .before .before .before .before .before in
-    c .before .before .four .ensures ∙ written-same _ _ _ _ (λ o h. above-fourth (s .args .filling .now) (s .args .g) (s .args .inputs .now) (length (s .args .inputs .now) - 3) (omega arith) _ (c .before .before .before .before .placed .ensures) (planned (s .args .plan .now) (s .args .r .now) o) (s .args .table .now)))
+    c .before .before .four .ensures ∙ written-same _ _ _ _ (λ o h. above-fourth (s .args .filling .now) (s .args .sizes .now) (s .args .inputs .now) (length (s .args .inputs .now) - 3) (omega arith) _ (c .before .before .before .before .placed .ensures) (planned (s .args .plan .now) (s .args .r .now) o) (s .args .table .now)))
     (λ c κs. let s = c .before .before .before .before .before .before .before in ((omega arith, omega arith), (s .pre .1 .0, (refl, refl, refl))))
     (λ c κs. let s = c .before .before .before .before .before .before .before .before .before .before .before .before in
     let same = ap reach (c .before .before .before .before .place .ensures) in

@@ -1,21 +1,28 @@
--- `lookup::nodes::below` meets its contract: every coordinate passed is below g. Assumes nothing.
+-- `lookup::nodes::below` meets its contract: every coordinate passed is below the size of its ink. Assumes nothing.
 use Prim.Native.Nat.{ℕ, _-_, _≤_, _<_}
 use native.Mathlib.Omega.{arith}
-use mathlib.Core.Path.{_≡_, sym}
-use mathlib.Core.Bool.{true}
-use lib.Dec.{ltb}
+use mathlib.Core.Path.{_≡_, ap, sym, _∙_}
+use mathlib.Core.Bool.{Bool}
+use mathlib.Core.List.{List, reverse}
 use lib.ListN.{length, getD}
 use borrow.Author.Count.{below-none, below-more}
-use borrow.Author.Tests.{lt-ltb, le-ltb}
-use Rattle.lists.proofs.Lists.{every-of, every-fails}
+use borrow.Author.Needs.{needs}
+use Rattle.lists.specs.Lists.{lastFirst}
+use Rattle.lists.proofs.Lists.{reverse-all}
+use Rattle.layout.specs.Order.{inGrid}
+use Rattle.layout.proofs.Order.{in-grid-all, in-grid-fails}
 use Rattle.lookup.proofs.nodes.below.Statement.{statement}
 use Rattle.lookup.proofs.nodes.below.Tie as tie
 
 abbrev Inv-loop : tie.InvT-loop
-Inv-loop coordinates g i₀ i = (i ≤ length coordinates) × ((k : ℕ) → k < i → ltb (getD coordinates k 0) g ≡ true)
+Inv-loop coordinates sizes i₀ i = (i ≤ length coordinates) × ((k : ℕ) → k < i → getD coordinates k 0 < getD sizes k 0)
 
 abbrev μ-loop : tie.MeasureT-loop
-μ-loop coordinates g i₀ i = length coordinates - i
+μ-loop coordinates sizes i₀ i = length coordinates - i
+
+-- the test of the coordinates, by the coordinates last ink first
+tested : (sizes ks : List ℕ) (r : Bool) → inGrid (lastFirst (length ks) sizes) (lastFirst (length ks) ks) ≡ r → r ≡ inGrid (lastFirst (length ks) sizes) (reverse ks)
+tested sizes ks r e = sym (ap (inGrid (lastFirst (length ks) sizes)) (reverse-all ks) ∙ e)
 
 pub below-spec : {M : Type 1} → statement M
 below-spec =
@@ -25,9 +32,11 @@ below-spec =
     μ-loop
     (λ c. (omega arith, below-none _))
     (λ c. omega arith)
+    (λ c. search needs)
     (λ c. omega arith)
-    (λ c. let s = c .before .before .before .before in sym (every-fails (λ k. ltb k (s .args .g)) (s .args .coordinates .now) (c .before .before .before .loop .i) (c .before .before .loop-test .taken) (le-ltb _ _ (c .if1 .taken))))
+    (λ c. omega arith)
+    (λ c. let s = c .before .before .before .before in tested (s .args .t2) (s .args .coordinates .now) _ (in-grid-fails _ _ _ (c .before .before .before .loop .i) (c .before .before .loop-test .taken) (c .if1 .taken)))
     (λ c. omega arith)
     (λ c. omega arith)
-    (λ c. (omega arith, below-more _ _ (c .before .before .before .loop .inv .1) (lt-ltb _ _ (c .if1 .left))))
-    (λ c. let s = c .before .before in sym (every-of (λ k. ltb k (s .args .g)) (s .args .coordinates .now) (λ k l. c .before .loop .inv .1 k (omega arith)))))
+    (λ c. (omega arith, below-more _ _ (c .before .before .before .loop .inv .1) (c .if1 .left)))
+    (λ c. let s = c .before .before in tested (s .args .t2) (s .args .coordinates .now) _ (in-grid-all _ _ _ (λ k l. c .before .loop .inv .1 k (omega arith)))))

@@ -3,22 +3,22 @@ use Prim.Native.Nat.{ℕ, _+_, _-_, _*_, _^_, _≤_, _<_}
 use native.Mathlib.Omega.{arith}
 use native.Mathlib.Nat.{le-trans, mul-le-mul}
 use native.Mathlib.Numerals.{add-one}
-use mathlib.Core.Path.{_≡_, refl, ap, _∙_}
+use mathlib.Core.Path.{_≡_, refl, sym, ap, _∙_}
+use mathlib.Core.Bool.{true}
 use mathlib.Core.List.{List, reverse, reverse-append}
-use lib.Dec.{lit≤, ltb}
+use lib.Dec.{lit≤}
 use lib.ListN.{length, getD, take, length-reverse}
 use lib.Seq.{take-suc, take-length, length-take-le}
-use mir.Syntax.{w32}
+use mir.Syntax.{w8, w32}
 use mir.Val.{Fits}
 use mir.Facts.{fits-le, fits-lit}
 use borrow.Author.Needs.{needs}
-use borrow.Author.Tests.{ltb-true}
-use Rattle.lists.proofs.Lists.{every-at}
-use Rattle.layout.specs.Order.{index, strided}
+use Rattle.lists.specs.Lists.{lastFirst}
+use Rattle.lists.proofs.Lists.{reverse-all}
+use Rattle.layout.specs.Order.{index, inGrid, strided}
 use Rattle.layout.specs.Layout.{inkSizes}
-use Rattle.layout.proofs.Order.{in-grid-within}
+use Rattle.layout.proofs.Order.{in-grid-within, in-grid-at}
 use Rattle.layout.proofs.Laws.{inks-to, node-of, node-fits}
-use Rattle.lookup.proofs.Refusals.{in-grid-is}
 use Rattle.lookup.proofs.nodes.number.Statement.{statement}
 use Rattle.lookup.proofs.nodes.number.Tie as tie
 
@@ -43,9 +43,11 @@ term-low : (c : tie.After-shared-slice-known Inv-loop μ-loop) →
 term-low c =
     let start = c .before .before .before .before in
     let i = c .before .before .loop .i in
-    let g = start .args .lut .«grid_size» in
-    let byte : g < 256 = search needs in
-    let line : getD (start .args .coordinates .now) i 0 < g = ltb-true _ g (every-at (λ k. ltb k g) (start .args .coordinates .now) i (start .pre .1 .1) (c .before .loop-test .taken)) in
+    let ks = start .args .coordinates .now in
+    let inside : inGrid (lastFirst (length ks) (start .args .lut .«grid_sizes»)) (lastFirst (length ks) ks) ≡ true =
+    (λ j. inGrid (lastFirst (start .pre .1 .0 j) (start .args .lut .«grid_sizes»)) (sym (reverse-all ks) j)) ∙ start .pre .1 .1 in
+    let line = in-grid-at (start .args .lut .«grid_sizes») ks (length ks) i inside (c .before .loop-test .taken) in
+    let byte : Fits w8 (getD (start .args .lut .«grid_sizes») i 0) = search needs in
     let wide : Fits w32 (getD (start .args .lut .«grid_strides») i 0) = search needs in
     le-trans (mul-le-mul {n₂ = 255} {m₂ = 2 ^ 32 - 1} (omega arith) (omega arith)) (lit≤ tt)
 
@@ -87,6 +89,5 @@ number-spec =
     let next = strided-next (s .args .lut .«grid_strides») (s .args .coordinates .now) (c .before .before .loop .i) (omega arith) in
     (omega arith, omega (arith, next), omega (arith, term-low c)))
     (λ c. let s = c .before .before .before in
-    let inside = in-grid-is (s .args .lut) (s .args .coordinates .now) (s .pre .1 .0) ∙ s .pre .1 .1 in
-    omega (arith, number-is c, node-fits (s .args .lut) (s .pre .0) (reverse (s .args .coordinates .now)) (in-grid-within _ _ inside)))
+    omega (arith, number-is c, node-fits (s .args .lut) (s .pre .0) (reverse (s .args .coordinates .now)) (in-grid-within _ _ (s .pre .1 .1))))
     (λ c. number-is c))

@@ -7,10 +7,10 @@ use Rattle.lookup.proofs.place.place.Statement.{statement}
 use Rattle.lookup.proofs.place.place.Tie as tie
 
 abbrev Inv-loop : tie.InvT-loop
-Inv-loop filling g inputs k low₀ high₀ w₀ i₀ low high w i = (i ≤ k) × Filled filling g inputs low high w i
+Inv-loop filling sizes inputs k low₀ high₀ w₀ i₀ low high w i = (i ≤ k) × Filled filling sizes inputs low high w i
 
 abbrev μ-loop : tie.MeasureT-loop
-μ-loop filling g inputs k low₀ high₀ w₀ i₀ low high w i = k - i
+μ-loop filling sizes inputs k low₀ high₀ w₀ i₀ low high w i = k - i
 
 pub place-spec : {M : Type 1} → statement M
 place-spec =

@@ -7,7 +7,7 @@ use lib.ListN.{getD}
 use mir.Facts.{fits-le, fits-lit}
 use mir.Syntax.{w64}
 use mir.Val.{Fits}
-use borrow.Author.Needs.{needs, fits-under}
+use borrow.Author.Needs.{fits-under}
 use Rattle.lookup.specs.Places.{scale}
 use Rattle.lookup.proofs.Reach.{cell-below}
 use Rattle.lookup.proofs.place.placed.Statement.{statement}
@@ -22,14 +22,15 @@ placed-spec =
     (tie.spec
     (λ c. omega arith)
     (λ c. omega arith)
+    (λ c. omega arith)
     (λ c κs. tt)
     (λ c. omega arith)
     (λ c. omega arith)
-    (λ c. let s = c .before .before .before .before in
-    fits-under _ _ _ (s .pre .1 (s .args .i) (s .pre .0 .1)) tt)
     (λ c. let s = c .before .before .before .before .before in
-    distance-fits (c .before .before .ink-cell .result .x) (getD (s .args .filling .now) (s .args .i) 0) (cell-below _ _ _ _ (c .before .before .ink-cell .ensures) (search needs) .0) (s .pre .1 (s .args .i) (s .pre .0 .1)))
+    fits-under _ _ _ (s .pre .1 (s .args .i) (s .pre .0 .1) .0) tt)
     (λ c. let s = c .before .before .before .before .before .before in
-    distance-fits (c .before .before .before .ink-cell .result .«x_n») (getD (s .args .filling .now) (s .args .i) 0) (cell-below _ _ _ _ (c .before .before .before .ink-cell .ensures) (search needs) .1) (s .pre .1 (s .args .i) (s .pre .0 .1)))
-    (λ c. let s = c .before .before .before .before .before .before in
+    distance-fits (c .before .before .ink-cell .result .x) (getD (s .args .filling .now) (s .args .i) 0) (cell-below _ _ _ _ (c .before .before .ink-cell .ensures) (s .pre .1 (s .args .i) (s .pre .0 .1) .1) .0) (s .pre .1 (s .args .i) (s .pre .0 .1) .0))
+    (λ c. let s = c .before .before .before .before .before .before .before in
+    distance-fits (c .before .before .before .ink-cell .result .«x_n») (getD (s .args .filling .now) (s .args .i) 0) (cell-below _ _ _ _ (c .before .before .before .ink-cell .ensures) (s .pre .1 (s .args .i) (s .pre .0 .1) .1) .1) (s .pre .1 (s .args .i) (s .pre .0 .1) .0))
+    (λ c. let s = c .before .before .before .before .before .before .before in
     ap (scale (getD (s .args .filling .now) (s .args .i) 0)) (c .before .before .before .ink-cell .ensures)))

@@ -5,10 +5,10 @@ use Rattle.replay.proofs.record.listed.Statement.{statement}
 use Rattle.replay.proofs.record.listed.Tie as tie
 
 abbrev Inv-loop : tie.InvT-loop
-Inv-loop places lut₀ i₀ lut i = i ≤ 51
+Inv-loop places lut₀ i₀ lut i = i ≤ 66
 
 abbrev μ-loop : tie.MeasureT-loop
-μ-loop places lut₀ i₀ lut i = 51 - i
+μ-loop places lut₀ i₀ lut i = 66 - i
 
 pub listed-spec : {M : Type 1} → statement M
 listed-spec =

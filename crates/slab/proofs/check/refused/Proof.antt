@@ -1,15 +1,17 @@
 -- `slab::check::refused` meets its contract: each test is the definition's, and a line's share of the whole table is the slab. Assumes nothing.
-use Prim.Native.Nat.{ℕ, _/_}
+use Prim.Native.Nat.{ℕ, _-_, _/_, _≤_, _<_}
 use mathlib.Core.Path.{_≡_, sym, ap, _∙_}
-use mathlib.Core.Bool.{false, not, _||_}
+use mathlib.Core.Bool.{Bool, false, cond, not, _||_}
 use native.Mathlib.Nat.{mul-div-cancel-left}
+use native.Mathlib.Omega.{arith}
 use lib.Dec.{ltb, eqb}
 use borrow.Author.Needs.{needs}
 use borrow.Author.Tests.{not-false, lt-ltb, le-ltb}
-use Rattle.layout.specs.Layout.{IsLayout, entries, fewer}
-use Rattle.layout.proofs.Laws.{first-filling, size-from, fewer-entries}
-use Rattle.slab.specs.Slab.{isInk, refusal}
+use Rattle.layout.specs.Layout.{IsLayout, entries}
+use Rattle.layout.proofs.Laws.{inks-to, first-filling, size-from}
+use Rattle.slab.specs.Slab.{sizeOf, fewer, isInk, refusal}
 use Rattle.slab.specs.Runs.{Checked}
+use Rattle.slab.proofs.Fewer.{fewer-entries}
 use Rattle.slab.proofs.Cutting.{may-cut}
 use Rattle.slab.proofs.check.refused.Statement.{statement}
 use Rattle.slab.proofs.check.refused.Tie as tie
@@ -30,13 +32,42 @@ enough c = ap (ltb (c .before .before .before .before .args .table)) (sym (total
 ink : (c : tie.Else3) → let a = c .before .before .before .before .before .before .args in (not (isInk (a .j) (a .lut .«input_inks»)) || eqb (a .lut .«input_inks») 1) ≡ false
 ink c = sym (c .before .no-cut .ensures) ∙ c .if3 .left
 
+counts : (c : tie.Else3) → let a = c .before .before .before .before .before .before .args in (1 ≤ a .j) × (a .j ≤ a .lut .«input_inks») × (2 ≤ a .lut .«input_inks»)
+counts c = may-cut _ _ (ink c)
+
+-- ink j's size is among the sixteen, and above 0
+placed : (c : tie.Else3) → c .before .before .before .before .before .before .args .j ≤ 15
+placed c = omega (arith, counts c .1, inks-to _ (is-layout (c .before .before .before .before)))
+
+size-some : (c : tie.Else3) → let a = c .before .before .before .before .before .before .args in 0 < sizeOf (a .lut) (a .j)
+size-some c =
+    let a = c .before .before .before .before .before .before .args in
+    size-from (a .lut) (is-layout (c .before .before .before .before)) (a .j - 1) (omega (arith, counts c .0, counts c .1))
+
 -- the slab's total
-share-is : (c : tie.Else4) → let a = c .before .before .before .before .before .before .before .args in c .before .before .before .before .entry-count .result / a .lut .«grid_size» ≡ entries (fewer (a .lut))
+share-is : (c : tie.Else4) →
+    let a = c .before .before .before .before .before .before .before .before .args in
+    c .before .before .before .before .before .entry-count .result / sizeOf (a .lut) (a .j) ≡ entries (fewer (a .lut) (a .j))
 share-is c =
-    let lut = c .before .before .before .before .before .before .before .args .lut in
-    let is = is-layout (c .before .before .before .before .before) in
-    let counts = may-cut _ _ (ink (c .before)) in
-    ap (λ (t : ℕ). t / lut .«grid_size») (total-is (c .before .before .before .before) ∙ fewer-entries lut is (counts .2)) ∙ mul-div-cancel-left (entries (fewer lut)) (size-from lut is)
+    let a = c .before .before .before .before .before .before .before .before .args in
+    let is = is-layout (c .before .before .before .before .before .before) in
+    let may = counts (c .before .before) in
+    ap (λ (t : ℕ). t / sizeOf (a .lut) (a .j)) (total-is (c .before .before .before .before .before) ∙ fewer-entries (a .lut) is (may .2) (a .j) (may .0) (may .1))
+    ∙ mul-div-cancel-left (entries (fewer (a .lut) (a .j))) (size-some (c .before .before))
+
+-- what the tests up to the last say
+tested : (c : tie.Else4) (r : ℕ) →
+    let a = c .before .before .before .before .before .before .before .before .args in
+    cond (ltb (a .room) (entries (fewer (a .lut) (a .j)))) 8 0 ≡ r → Checked (a .lut) (a .table) (a .j) (a .k) (a .room) r
+unfolding refusal
+tested c r last =
+    let else1 = c .before .before .before .before .before .before in
+    number (else1 .before) r (sym (simp (else1 .if1 .left, enough (c .before .before .before .before), ink (c .before .before), lt-ltb _ _ (c .if4 .left)) last))
+
+by-room : (c : tie.Else4) →
+    let a = c .before .before .before .before .before .before .before .before .args in
+    ltb (a .room) (entries (fewer (a .lut) (a .j))) ≡ ltb (a .room) (c .before .before .before .before .before .entry-count .result / sizeOf (a .lut) (a .j))
+by-room c = ap (ltb (c .before .before .before .before .before .before .before .before .args .room)) (sym (share-is c))
 
 pub refused-spec : {M : Type 1} → statement M
 unfolding refusal
@@ -49,9 +80,12 @@ refused-spec =
     (λ c. number (c .before .before .before) 6 (sym (simp (c .before .before .if1 .left, ap (ltb (c .before .before .before .before .args .table)) (sym (total-is (c .before))) ∙ lt-ltb _ _ (c .if2 .taken)))))
     (λ c κs. search needs)
     (λ c. number (c .before .before .before .before .before) 11 (sym (simp (c .before .before .before .before .if1 .left, enough (c .before .before), sym (c .before .no-cut .ensures), c .if3 .taken))))
+    (λ c. omega (arith, counts (c .before) .0))
+    (λ c. omega (arith, placed (c .before), counts (c .before) .0))
     (λ c. search needs)
-    (λ c. number (c .before .before .before .before .before .before) 12 (sym (simp (c .before .before .before .before .before .if1 .left, enough (c .before .before .before), ink (c .before), le-ltb _ _ (c .if4 .taken)))))
+    (λ c. let else1 = c .before .before .before .before .before .before in
+    number (else1 .before) 12 (sym (simp (else1 .if1 .left, enough (c .before .before .before .before), ink (c .before .before), le-ltb _ _ (c .if4 .taken)))))
     (λ c. search needs)
-    (λ c. let some = size-from _ (is-layout (c .before .before .before .before .before)) in search needs)
-    (λ c. number (c .before .before .before .before .before .before .before) 8 (sym (simp (c .before .before .before .before .before .before .if1 .left, enough (c .before .before .before .before), ink (c .before .before), lt-ltb _ _ (c .before .if4 .left), ap (ltb (c .before .before .before .before .before .before .before .before .args .room)) (sym (share-is (c .before))) ∙ lt-ltb _ _ (c .if5 .taken)))))
-    (λ c. number (c .before .before .before .before .before .before .before) 0 (sym (simp (c .before .before .before .before .before .before .if1 .left, enough (c .before .before .before .before), ink (c .before .before), lt-ltb _ _ (c .before .if4 .left), ap (ltb (c .before .before .before .before .before .before .before .before .args .room)) (sym (share-is (c .before))) ∙ le-ltb _ _ (c .if5 .left))))))
+    (λ c. size-some (c .before .before))
+    (λ c. tested (c .before) 8 (ap (λ (b : Bool). cond b 8 0) (by-room (c .before) ∙ lt-ltb _ _ (c .if5 .taken))))
+    (λ c. tested (c .before) 0 (ap (λ (b : Bool). cond b 8 0) (by-room (c .before) ∙ le-ltb _ _ (c .if5 .left)))))

@@ -1,10 +1,10 @@
--- `replay::elements::bytes` ends: one byte a turn. Assumes nothing.
+-- `replay::words::bytes` ends: one byte a turn. Assumes nothing.
 use Prim.Native.Nat.{_-_}
 use lib.ListN.{length}
 use borrow.Author.Needs.{needs}
 use Rattle.replay.proofs.Counted.{Filled, filled-next}
-use Rattle.replay.proofs.elements.bytes.Statement.{statement}
-use Rattle.replay.proofs.elements.bytes.Tie as tie
+use Rattle.replay.proofs.words.bytes.Statement.{statement}
+use Rattle.replay.proofs.words.bytes.Tie as tie
 
 abbrev Inv-loop : tie.InvT-loop
 Inv-loop text from into₀ next₀ i₀ into next i = Filled into₀ into i
