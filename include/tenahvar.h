@@ -3,8 +3,12 @@
  * Each function answers a number: 0, done, or the first refusal that applies. On a refusal it has written nothing.
  * Memory: it is lent for the time of the call alone; nothing is kept, allocated or freed.
  * Threads: there is no state, so any function may be called from any thread at any time.
- * Pointers: none may be null, also where a length is 0, and what a function writes to may overlap nothing else that it is given.
- * Lengths count entries, not bytes. A 64-bit processor is asked for: size_t has 64 bits, float is IEEE 754 binary32.
+ * Pointers: none may be null, also where a length is 0; each is aligned as its type asks, and what a function writes to may overlap nothing else that it is
+ * given.
+ * Lengths count entries, not bytes, and are true: so many entries are there to be read or written. A length may be larger than what a call uses.
+ * Arithmetic: a 64-bit processor is asked for, size_t has 64 bits, float is IEEE 754 binary32. The caller leaves the processor's rounding at nearest, and
+ * does not have it flush subnormal numbers to zero.
+ * Stack: TENAHVAR_STACK below is more than any call takes. The archive imports one symbol, memcpy.
  */
 #ifndef TENAHVAR_H
 #define TENAHVAR_H
@@ -15,6 +19,12 @@
 #ifdef __cplusplus
 extern "C" {
 #endif
+
+/* The version of this header, and of the archive that it goes with. */
+#define TENAHVAR_VERSION "0.2.0"
+#define TENAHVAR_VERSION_MAJOR 0
+#define TENAHVAR_VERSION_MINOR 2
+#define TENAHVAR_VERSION_PATCH 0
 
 /* What a call answers. */
 #define TENAHVAR_DONE 0            /* done */
@@ -31,8 +41,30 @@ extern "C" {
 #define TENAHVAR_NO_SUCH_INK 11    /* the ink to cut is not one of 1..n, or n is 1 */
 #define TENAHVAR_NO_SUCH_LINE 12   /* the line to cut at is not below the size of the ink to cut */
 #define TENAHVAR_SHORT_ELEMENT 13  /* a CLUT element has under 20 bytes */
-#define TENAHVAR_PRECISION 14      /* a CLUT element's precision is neither 1 nor 2 */
-#define TENAHVAR_SHORT_DATA 15     /* a CLUT element has too little data for the total */
+#define TENAHVAR_PRECISION 14      /* the precision, the bytes of a value, is neither 1 nor 2 */
+#define TENAHVAR_SHORT_DATA 15     /* too little data: for the total of a CLUT element, or for the count of values */
+
+/* What a number says, in words for a log. A number that no function gives has a text too. */
+static inline const char *tenahvar_refusal_text(uint32_t number) {
+    switch (number) {
+    case 0: return "done";
+    case 1: return "the number of input inks is outside 1..15";
+    case 2: return "the number of output inks is outside 1..15, or for a cube method not 3 or 4";
+    case 3: return "a grid size in use is 0";
+    case 5: return "the table would have more than 4,294,967,295 entries";
+    case 6: return "the table is shorter than the sizes ask";
+    case 7: return "the number of inputs or coordinates is not that of the input inks";
+    case 8: return "a buffer to be written is too short";
+    case 9: return "the record is not one that an accepted layout gives";
+    case 10: return "a node is outside the grid";
+    case 11: return "the ink to cut is not an ink, or it is the only one";
+    case 12: return "the line to cut at is not one of the ink";
+    case 13: return "the CLUT element has under 20 bytes";
+    case 14: return "the precision is neither 1 nor 2";
+    case 15: return "there is too little data";
+    default: return "no refusal of this version";
+    }
+}
 
 /* A layout: the first n of the sixteen sizes are in use, the number of grid lines of each ink; the others may be anything. There are n inks in and m out,
  * and as many entries as the product of the n sizes times m, the total. In the table the first ink varies least rapidly, the last most rapidly, and the m
@@ -42,6 +74,9 @@ extern "C" {
  * less 1; unused places are set to 1, 1 and +0.0. */
 uint32_t tenahvar_layout(const uint8_t sizes[16], size_t n, size_t m,
                          uint32_t grid_strides[16], uint32_t grid_filling_size[16], float grid_scale[16]);
+
+/* The entries that a table needs: refusals 1, 2, 3, 5. On 0 *total is the product of the n sizes and m, at most 4,294,967,295. */
+uint32_t tenahvar_total(const uint8_t sizes[16], size_t n, size_t m, uint64_t *total);
 
 /* The colour at `inputs`: a layout's refusals, then 6, 7, 8. On 0 it sets the first m entries of `answer` and no others. */
 uint32_t tenahvar_lookup(const uint8_t sizes[16], size_t n, size_t m,
@@ -58,9 +93,15 @@ uint32_t tenahvar_node(const uint8_t sizes[16], size_t n, size_t m,
 /* Reads the CLUT element of an ICC.1 lutAToBType: sixteen sizes, a precision byte, three bytes of padding, then the data. An entry is v / 255 of one byte
  * (precision 1) or v / 65535 of two, the first counting most (precision 2). Padding, sizes from n on and data past the total are ignored.
  * Refusals 13, then a layout's, then 14, 15, 8. On 0 it writes the element's first n sizes and then zeros to `sizes`, and sets the first total entries of
- * `entries` and no others. What was read is for the functions above, with the same n and m; the element is needed no more. */
+ * `entries` and no others. What was read is for the functions here, with the same n and m; the element is needed no more. */
 uint32_t tenahvar_read_clut(const uint8_t *element, size_t element_length, size_t n, size_t m,
                             uint8_t sizes[16], float *entries, size_t entries_length);
+
+/* Values of one byte (precision 1) or of two, the first counting most (precision 2), as numbers from 0 to 1: v / 255 or v / 65535. For the table of an ICC.1
+ * lut8Type or lut16Type, whose data has no header of its own, and for ink codes of 8 or 16 bits. Refusals 14, 15 (less than `count` values), 8 (`entries`
+ * shorter than `count`). On 0 it sets the first `count` entries and no others; data past them is ignored. */
+uint32_t tenahvar_read_units(const uint8_t *data, size_t data_length, size_t precision, size_t count,
+                             float *entries, size_t entries_length);
 
 /* Cuts out the table that remains when ink j, counted from 1, stands on grid line k, counted from 0: the slab. It has as many entries as the product of the
  * other sizes times m and holds, bit for bit and in their old order, the entries of the nodes whose coordinate for ink j is k.
