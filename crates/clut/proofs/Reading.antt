@@ -1,4 +1,4 @@
--- What reading an element owes, case by case: `clut-refused`, `clut-done`, by the number; `short-element`, `layout-number`, `data-number`, where the number comes from.
+-- What reading an element owes, case by case: `clut-refused`, `clut-units`, by the number; `short-element`, `layout-number`, `data-number`, where the number comes from.
 -- `all-passed`, `data-holds`: what the checks give. `clut-is-layout`: the record is a layout's. `clut-number`: the number in the answer; `clut-length`: the buffer's length stays. Assumes nothing.
 use Prim.Native.Nat.{ℕ, zero, suc, _*_, _≤_, _<_}
 use native.Mathlib.Omega.{arith}
@@ -11,14 +11,15 @@ use lib.Ieee.{Float}
 use lib.ListN.{length, getD}
 use borrow.Author.Tests.{lt-ltb, le-ltb, ltb-false, not-false}
 use Rattle.outcome.specs.Outcome.{orElse, onDone}
-use Rattle.outcome.proofs.Refused.{refused-first, kept, given, neither, passed}
-use Rattle.lists.specs.Buffer.{written, left}
+use Rattle.outcome.proofs.Refused.{refused-first, kept, neither, passed}
+use Rattle.lists.specs.Buffer.{left}
 use Rattle.lists.proofs.Buffer.{unwritten, length-left}
 use Rattle.lists.proofs.Lists.{length-tabulate, tabulate-bytes, one-of}
 use Rattle.layout.specs.declared.Laid.{Laid}
 use Rattle.layout.specs.Layout.{refusedBy, IsLayout}
 use Rattle.layout.proofs.BySizes.{laid-is-layout}
-use Rattle.clut.specs.Clut.{sizesOf, precisionOf, dataOf, isPrecision, entryAt, dataRefusal, layoutOf, totalOf, refusal, ClutRead}
+use Rattle.clut.specs.Units.{isPrecision, entryAt, dataRefusal, UnitsRead}
+use Rattle.clut.specs.Clut.{sizesOf, precisionOf, dataOf, layoutOf, totalOf, refusal, ClutRead}
 
 module _ (element : List ℕ) (n m : ℕ) where
   module _ (old : List Float) where
@@ -33,13 +34,14 @@ module _ (element : List ℕ) (n m : ℕ) where
           table = unwritten number (entryAt (precisionOf element) (dataOf element)) (totalOf element n m) old refused is;
         }
 
-    -- no refusal
-    pub clut-done : 0 ≡ number → (r : Laid) → r ≡ layoutOf element n m → (now : List Float)
-        → now ≡ written (entryAt (precisionOf element) (dataOf element)) (totalOf element n m) old → ClutRead element n m old r now
-    clut-done done r laid now is =
+    -- what `read_units` answered, k, where the element has a header and its layout is accepted
+    pub clut-units : (k : ℕ) (now : List Float) → UnitsRead (dataOf element) (precisionOf element) (totalOf element n m) old k now
+        → dataRefusal (precisionOf element) (length (dataOf element)) (totalOf element n m) (length old) ≡ number
+        → (r : Laid) → r ≡ onDone k (layoutOf element n m) (refusedBy k) → ClutRead element n m old r now
+    clut-units k now units is r answer =
         record {
-          answer = laid ∙ given number (layoutOf element n m) (refusedBy number) done;
-          table = is ∙ ap (λ (k : ℕ). left k (entryAt (precisionOf element) (dataOf element)) (totalOf element n m) old) done;
+          answer = answer ∙ ap (λ (j : ℕ). onDone j (layoutOf element n m) (refusedBy j)) (units .number ∙ is);
+          table = units .entries ∙ ap (λ (j : ℕ). left j (entryAt (precisionOf element) (dataOf element)) (totalOf element n m) old) (units .number ∙ is);
         }
 
   -- the layout's record is a layout's, where the element's entries are bytes

@@ -1,4 +1,5 @@
--- Every entry that is read is from 0 to 1: `entry-share`; so is each of the buffer's first total entries after a reading that was not refused: `read-shares`.
+-- Every entry that is read is from 0 to 1: `entry-share`; so is each of the buffer's first entries after a reading that was not refused, of values
+-- (`units-shares`) and of an element (`read-shares`).
 -- Assumes nothing.
 use Prim.Native.Nat.{ℕ, zero, suc, _+_, _-_, _*_, _^_, _≤_, _<_}
 use mathlib.Core.Path.{_≡_, sym, ap, _∙_, subst}
@@ -14,13 +15,14 @@ use lib.Seq.{getD-take, getD-drop}
 use Rattle.outcome.specs.Outcome.{onDone}
 use Rattle.binary32.specs.Range.{Share}
 use Rattle.binary32.proofs.Ranges.{unit-share}
-use Rattle.lists.specs.Buffer.{written, left}
+use Rattle.lists.specs.Buffer.{left}
 use Rattle.lists.proofs.Lists.{bytes-at}
 use Rattle.lists.proofs.Bytes.{big-below}
 use Rattle.lists.proofs.Buffer.{written-at}
 use Rattle.layout.specs.declared.Laid.{Laid}
 use Rattle.layout.specs.Layout.{refusedBy, entries, IsLayout}
-use Rattle.clut.specs.Clut.{precisionOf, dataOf, valueAt, entryAt, dataRefusal, layoutOf, totalOf, refusal, ClutRead}
+use Rattle.clut.specs.Units.{valueAt, entryAt, dataRefusal, UnitsRead}
+use Rattle.clut.specs.Clut.{precisionOf, dataOf, layoutOf, totalOf, refusal, ClutRead}
 use Rattle.clut.proofs.Reading.{clut-is-layout, clut-number, all-passed, data-holds}
 
 -- the bytes of a value, as far as they are there
@@ -49,7 +51,15 @@ entry-share width bytes e from to each =
     let most = largest width from to in
     unit-share (256 ^ width - 1) (valueAt width bytes e) (most .0) (most .1) (omega (arith, value-below width bytes e each))
 
--- ---- after a reading that was not refused
+-- ---- after a reading of values that was not refused
+pub units-shares : (bytes : List ℕ) → ((i : ℕ) → getD bytes i 0 < 256) → (precision count : ℕ) (old now : List Float) → UnitsRead bytes precision count old 0 now
+    → (e : ℕ) → e < count → Share (getD now e nan)
+units-shares bytes each precision count old now read e h =
+    let holds = data-holds _ _ _ _ (sym (read .number)) in
+    subst Share (sym (ap (λ (l : List Float). getD l e nan) (read .entries) ∙ written-at (entryAt precision bytes) count old e nan h (holds .1 .1)))
+    (entry-share precision bytes e (holds .0 .0) (holds .0 .1) each)
+
+-- ---- after a reading of an element that was not refused
 module _ (element : List ℕ) (bytes : T (areBytes element)) (n m : ℕ) (old : List Float) (r : Laid) (now : List Float) (read : ClutRead element n m old r now) (done : r .refusal ≡ 0) where
   accepted : refusal element n m (length old) ≡ 0
   accepted = sym (clut-number element n m old r now read) ∙ done
@@ -66,8 +76,6 @@ module _ (element : List ℕ) (bytes : T (areBytes element)) (n m : ℕ) (old : 
   pub read-shares : (e : ℕ) → e < entries (r .lut) → Share (getD now e nan)
   read-shares e h =
       let f = entryAt (precisionOf element) (dataOf element) in
-      let holds = data-holds _ _ _ _ (checks .1) in
-      let within : e < totalOf element n m = subst (λ (l : Laid). e < entries (l .lut)) read-laid h in
-      let is : now ≡ written f (totalOf element n m) old = read .table ∙ ap (λ (k : ℕ). left k f (totalOf element n m) old) accepted in
-      subst Share (sym (ap (λ (l : List Float). getD l e nan) is ∙ written-at f (totalOf element n m) old e nan within (holds .1 .1)))
-      (entry-share (precisionOf element) (dataOf element) e (holds .0 .0) (holds .0 .1) (λ i. subst (λ (b : ℕ). b < 256) (sym (getD-drop 20 element i 0)) (bytes-at element bytes (20 + i))))
+      units-shares (dataOf element) (λ i. subst (λ (b : ℕ). b < 256) (sym (getD-drop 20 element i 0)) (bytes-at element bytes (20 + i))) (precisionOf element) (totalOf element n m) old now
+      (record { number = sym (checks .1); entries = read .table ∙ ap (λ (k : ℕ). left k f (totalOf element n m) old) accepted })
+      e (subst (λ (l : Laid). e < entries (l .lut)) read-laid h)

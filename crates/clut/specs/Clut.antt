@@ -1,18 +1,17 @@
 -- Document 02, E2: the CLUT element of ICC.1's lutAToBType, and what reading it answers. Definitions only.
-use Prim.Native.Nat.{ℕ, _-_, _*_, _^_}
+use Prim.Native.Nat.{ℕ}
 use mathlib.Core.Path.{_≡_}
-use mathlib.Core.Bool.{Bool, cond, not, _||_}
+use mathlib.Core.Bool.{cond}
 use mathlib.Core.List.{List}
 use lib.Ieee.{Float}
-use lib.Dec.{ltb, eqb}
-use lib.ListN.{length, getD, take, drop}
+use lib.Dec.{ltb}
+use lib.ListN.{length, getD, drop}
 use Rattle.outcome.specs.Outcome.{orElse, onDone}
-use Rattle.binary32.specs.Numbers.{unitOf}
 use Rattle.lists.specs.Lists.{tabulate}
 use Rattle.lists.specs.Buffer.{left}
-use Rattle.lists.specs.Bytes.{bigEndian}
 use Rattle.layout.specs.declared.Laid.{Laid}
 use Rattle.layout.specs.Layout.{laidOf, refusedBy, entries}
+use Rattle.clut.specs.Units.{entryAt, dataRefusal}
 
 -- Sixteen grid sizes, a precision byte, three bytes of padding, then the data. A byte that is missing counts as 0.
 abbrev pub sizesOf : List ℕ → List ℕ
@@ -23,25 +22,6 @@ precisionOf element = getD element 16 0
 
 abbrev pub dataOf : List ℕ → List ℕ
 dataOf element = drop 20 element
-
--- the precision is the number of bytes of a value
-unfoldable pub isPrecision : ℕ → Bool
-isPrecision precision = eqb precision 1 || eqb precision 2
-
--- value e of data with `width` bytes for each, the first byte counting most
-unfoldable pub valueAt : ℕ → List ℕ → ℕ → ℕ
-valueAt width bytes e = bigEndian (take width (drop (width * e) bytes))
-
--- a value v becomes the entry v / 255 or v / 65535, rounded once
-unfoldable pub entryAt : ℕ → List ℕ → ℕ → Float
-entryAt width bytes e = unitOf (256 ^ width - 1) (valueAt width bytes e)
-
--- 14, 15, 8, of the precision, the bytes of data, the layout's total and the places of the buffer
-unfoldable pub dataRefusal : ℕ → ℕ → ℕ → ℕ → ℕ
-dataRefusal precision bytes total room =
-    cond (not (isPrecision precision)) 14
-    (cond (ltb bytes (precision * total)) 15
-    (cond (ltb room total) 8 0))
 
 -- the layout of the element's sizes, and its total
 abbrev pub layoutOf : List ℕ → ℕ → ℕ → Laid

@@ -1,11 +1,12 @@
-// CLUT elements out of ICC profiles: document 02, E2. The meaning is in specs/Clut.antt.
+// CLUT elements out of ICC profiles, document 02, E2, and their data alone. The meaning is in specs/Clut.antt and specs/Units.antt.
 mod values;
 
 use layout::Laid;
 ghost use mathlib.Core.Path.{_≡_};
-ghost use Prim.Native.Nat.{_≤_};
-ghost use Rattle.layout.specs.Layout.{limit};
-ghost use Rattle.clut.specs.Clut.{sizesOf, isPrecision, dataRefusal, ClutRead};
+ghost use Prim.Native.Nat.{ℕ, _*_, _≤_};
+ghost use lib.Dec.{ltb};
+ghost use Rattle.clut.specs.Units.{isPrecision, dataRefusal, UnitsRead};
+ghost use Rattle.clut.specs.Clut.{sizesOf, ClutRead};
 
 // The sixteen grid sizes at an element's start. A byte that is missing counts as 0.
 fn sizes_of(element: &[u8]) -> [u8; 16]
@@ -21,7 +22,7 @@ fn sizes_of(element: &[u8]) -> [u8; 16]
 }
 
 // A value has one byte or two.
-fn is_precision(precision: u8) -> bool
+fn is_precision(precision: usize) -> bool
     ensures { λ r. ⌜ r ≡ isPrecision precision ⌝ }
 {
     if precision == 1 {
@@ -30,20 +31,43 @@ fn is_precision(precision: u8) -> bool
     precision == 2
 }
 
-// Checks 14, 15 and 8, where the layout is accepted and has this total.
-fn data_refusal(precision: u8, bytes: usize, total: u64, room: usize) -> u32
-    requires { ⌜ total ≤ limit ⌝ }
-    ensures { λ r. ⌜ r ≡ dataRefusal precision bytes total room ⌝ }
+// The values that so many bytes hold: a quotient, since the bytes of a count of values may be past any number.
+fn held(bytes: usize, width: usize) -> usize
+    requires { ⌜ (1 ≤ width) × (width ≤ 2) ⌝ }
+    ensures { λ r. ⌜ ((c : ℕ) → ltb r c ≡ ltb bytes (width * c)) ⌝ }
+{
+    if width == 1 {
+        return bytes;
+    }
+    bytes / 2
+}
+
+// Checks 14, 15 and 8.
+fn data_refusal(precision: usize, bytes: usize, count: usize, room: usize) -> u32
+    ensures { λ r. ⌜ r ≡ dataRefusal precision bytes count room ⌝ }
 {
     if !is_precision(precision) {
         return 14;
     }
-    if (bytes as u64) < (precision as u64) * total {
+    if held(bytes, precision) < count {
         return 15;
     }
-    if (room as u64) < total {
+    if room < count {
         return 8;
     }
+    0
+}
+
+// The first `count` values of the bytes, of `precision` bytes each, as numbers from 0 to 1: checks 14, 15, 8, and sets the first `count` places of `entries`.
+// Refused, nothing is written.
+pub fn read_units(bytes: &[u8], precision: usize, count: usize, entries: &mut [f32]) -> u32
+    ensures { λ r. ⌜ UnitsRead (now (bytes .entry)) precision count (now (entries .entry)) r (now (entries .exit)) ⌝ }
+{
+    let number = data_refusal(precision, bytes.len(), count, entries.len());
+    if number != 0 {
+        return number;
+    }
+    values::read(bytes, precision, entries, count);
     0
 }
 
@@ -59,13 +83,11 @@ pub fn read_clut(element: &[u8], n: usize, m: usize, entries: &mut [f32]) -> Lai
     if laid.refusal != 0 {
         return laid;
     }
-    let total = layout::entry_count(laid.lut);
-    let precision = element[16];
-    let data = &element[20..];
-    let number = data_refusal(precision, data.len(), total, entries.len());
+    let total = layout::entry_count(laid.lut) as usize;
+    let precision = element[16] as usize;
+    let number = read_units(&element[20..], precision, total, entries);
     if number != 0 {
         return layout::refused(number);
     }
-    values::read(data, precision as usize, entries, total as usize);
     laid
 }

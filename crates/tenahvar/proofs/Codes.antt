@@ -1,37 +1,35 @@
 -- The cells of 8-bit codes, written one field at a time. Assumes nothing.
-use Prim.Native.Nat.{ℕ, _+_, _<_}
-use mathlib.Core.Path.{_≡_, sym, ap, _∙_}
-use mathlib.Core.Bool.{Bool, true, false, cond}
+use Prim.Native.Nat.{ℕ, _+_}
+use mathlib.Core.Path.{_≡_, ap, _∙_}
 use mathlib.Core.List.{List}
-use native.Mathlib.Omega.{arith}
-use lib.Dec.{eqb}
-use lib.ListN.{getD, set, replicate}
-use Rattle.lists.specs.Lists.{tabulate}
+use lib.ListN.{set}
+use borrow.Author.Tests.{eq-eqb, ne-eqb}
 use Rattle.lists.specs.Buffer.{written, left}
-use Rattle.lists.proofs.Lists.{getD-tabulate}
 use Rattle.lists.proofs.Buffer.{written-next}
 use Rattle.cell.specs.declared.Cell.{Cell}
-use Rattle.weights.specs.declared.Ranged.{Ranged}
-use Rattle.weights.specs.Rule.{ranged, weightCell, zeroCell}
+use Rattle.weights.specs.declared.RangedCell.{RangedCell}
+use Rattle.weights.specs.Rule.{ranged, rangedCell, weightCell}
+
+-- a grid of size 0 is refused, and no other
+pub no-size : (g : ℕ) → g ≡ 0 → 3 ≡ ranged g .refusal
+unfolding ranged
+no-size g h = simp (eq-eqb g 0 h)
+
+pub some-size : (g : ℕ) → (g ≡ 0 → ⊥) → 0 ≡ ranged g .refusal
+unfolding ranged
+some-size g h = simp (ne-eqb g 0 h)
 
 -- where the size is not refused, a code's cell is the rule's
-by-case : (b : Bool) (g i : ℕ) (d : Cell) →
-    let made : Ranged = cond b (record { refusal = 3; weights = replicate 256 zeroCell }) (record { refusal = 0; weights = tabulate 256 (weightCell g) }) in
-    made .refusal ≡ 0 → i < 256 → getD (made .weights) i d ≡ weightCell g i
-by-case true g i d done below = absurd (omega arith)
-by-case false g i d done below = getD-tabulate 256 (weightCell g) i d below
-
-cell-at : (g i : ℕ) (d : Cell) → ranged g .refusal ≡ 0 → i < 256 → getD (ranged g .weights) i d ≡ weightCell g i
-unfolding ranged
-cell-at g i d done below = by-case (eqb g 0) g i d done below
+cell-at : (g i : ℕ) → (g ≡ 0 → ⊥) → rangedCell g i .cell ≡ weightCell g i
+unfolding rangedCell
+cell-at g i h = simp (ne-eqb g 0 h)
 
 module _ {A : Type 0} (field : Cell → A) (g : ℕ) where
   -- one code more
-  pub code-next : {cells : Ranged} (i : ℕ) (old now : List A) (d : Cell) → cells ≡ ranged g → cells .refusal ≡ 0 → i < 256
-      → now ≡ written (λ k. field (weightCell g k)) i old
-      → set now i (field (getD (cells .weights) i d)) ≡ written (λ k. field (weightCell g k)) (i + 1) old
-  code-next i old now d is done below so-far =
-      let cell = ap (λ (r : Ranged). getD (r .weights) i d) is ∙ cell-at g i d (sym (ap (λ (r : Ranged). r .refusal) is) ∙ done) below in
+  pub code-next : {one : RangedCell} (i : ℕ) (old now : List A) → one ≡ rangedCell g i → (g ≡ 0 → ⊥) → now ≡ written (λ k. field (weightCell g k)) i old
+      → set now i (field (one .cell)) ≡ written (λ k. field (weightCell g k)) (i + 1) old
+  code-next i old now is some so-far =
+      let cell = ap (λ (r : RangedCell). r .cell) is ∙ cell-at g i some in
       (λ k. set (so-far k) i (field (cell k))) ∙ written-next (λ k. field (weightCell g k)) i old
 
   -- all of them

@@ -9,8 +9,11 @@ use Rattle.lists.specs.Buffer.{left}
 use Rattle.cell.specs.declared.Cell.{Cell}
 use Rattle.cubes.specs.Blends.{Blend}
 use Rattle.cubes.specs.Cube.{answerAt, Blended}
+use Rattle.clut.proofs.Unique.{units-one}
 use Rattle.tenahvar.proofs.tenahvar_layout.Kinds as layout-kinds
 use Rattle.tenahvar.proofs.tenahvar_layout.Reads as layout-reads
+use Rattle.tenahvar.proofs.tenahvar_total.Kinds as total-kinds
+use Rattle.tenahvar.proofs.tenahvar_total.Reads as total-reads
 use Rattle.tenahvar.proofs.tenahvar_lookup.Kinds as lookup-kinds
 use Rattle.tenahvar.proofs.tenahvar_lookup.Reads as lookup-reads
 use Rattle.tenahvar.proofs.tenahvar_node.Kinds as node-kinds
@@ -19,6 +22,8 @@ use Rattle.tenahvar.proofs.tenahvar_cut_slab.Kinds as cut-slab-kinds
 use Rattle.tenahvar.proofs.tenahvar_cut_slab.Reads as cut-slab-reads
 use Rattle.tenahvar.proofs.tenahvar_read_clut.Kinds as read-clut-kinds
 use Rattle.tenahvar.proofs.tenahvar_read_clut.Reads as read-clut-reads
+use Rattle.tenahvar.proofs.tenahvar_read_units.Kinds as read-units-kinds
+use Rattle.tenahvar.proofs.tenahvar_read_units.Reads as read-units-reads
 use Rattle.tenahvar.proofs.tenahvar_create_ranged_256.Kinds as create-ranged-256-kinds
 use Rattle.tenahvar.proofs.tenahvar_create_ranged_256.Reads as create-ranged-256-reads
 use Rattle.tenahvar.proofs.tenahvar_pyramidal.Kinds as pyramidal-kinds
@@ -34,6 +39,11 @@ tenahvar-layout-unique κs a x y ws vs p q =
     let filling = p .filling ∙ sym (q .filling) in
     let scale = p .scale ∙ sym (q .scale) in
     (p .number ∙ sym (q .number), λ i. (tt, (tt, (tt, (strides i, (filling i, (scale i, tt)))))))
+
+pub tenahvar-total-unique : OneOutcome 2 total-kinds.ps total-kinds.r total-reads.Post
+tenahvar-total-unique κs a x y ws vs p q =
+    let total = p .total ∙ sym (q .total) in
+    (p .number ∙ sym (q .number), λ i. (tt, (tt, (tt, (total i, tt)))))
 
 pub tenahvar-lookup-unique : OneOutcome 4 lookup-kinds.ps lookup-kinds.r lookup-reads.Post
 tenahvar-lookup-unique κs a x y ws vs p q =
@@ -55,6 +65,9 @@ tenahvar-read-clut-unique κs a x y ws vs p q =
     let sizes = p .sizes ∙ sym (q .sizes) in
     let table = p .table ∙ sym (q .table) in
     (p .number ∙ sym (q .number), λ i. (tt, (tt, (tt, (sizes i, (table i, tt))))))
+
+pub tenahvar-read-units-unique : OneOutcome 2 read-units-kinds.ps read-units-kinds.r read-units-reads.Post
+tenahvar-read-units-unique κs a x y ws vs p q = let one = units-one p q in (one .0, λ i. (tt, (tt, (tt, (one .1 i, tt)))))
 
 pub tenahvar-create-ranged-256-unique : OneOutcome 3 create-ranged-256-kinds.ps create-ranged-256-kinds.r create-ranged-256-reads.Post
 tenahvar-create-ranged-256-unique κs a x y ws vs p q =
@@ -83,6 +96,9 @@ tenahvar-trilinear-unique κs a x y ws vs p q = let one = one-buffer p q in (one
 pub tenahvar-layout-asks-nothing : (κs : _) (a : _) → layout-reads.Pre κs a
 tenahvar-layout-asks-nothing κs a = tt
 
+pub tenahvar-total-asks-nothing : (κs : _) (a : _) → total-reads.Pre κs a
+tenahvar-total-asks-nothing κs a = tt
+
 pub tenahvar-lookup-asks-nothing : (κs : _) (a : _) → lookup-reads.Pre κs a
 tenahvar-lookup-asks-nothing κs a = tt
 
@@ -94,6 +110,9 @@ tenahvar-cut-slab-asks-nothing κs a = tt
 
 pub tenahvar-read-clut-asks-nothing : (κs : _) (a : _) → read-clut-reads.Pre κs a
 tenahvar-read-clut-asks-nothing κs a = tt
+
+pub tenahvar-read-units-asks-nothing : (κs : _) (a : _) → read-units-reads.Pre κs a
+tenahvar-read-units-asks-nothing κs a = tt
 
 pub tenahvar-create-ranged-256-asks-nothing : (κs : _) (a : _) → create-ranged-256-reads.Pre κs a
 tenahvar-create-ranged-256-asks-nothing κs a = tt

@@ -6,7 +6,8 @@ use lib.Ieee.{Float}
 use lib.ListN.{length}
 use Rattle.outcome.specs.Outcome.{onDone}
 use Rattle.lists.specs.Buffer.{left}
-use Rattle.clut.specs.Clut.{precisionOf, dataOf, entryAt, layoutOf, totalOf, refusal}
+use Rattle.clut.specs.Units.{entryAt}
+use Rattle.clut.specs.Clut.{precisionOf, dataOf, layoutOf, totalOf, refusal}
 
 -- what `tenahvar_read_clut` owes: its number r, the sizes afterwards, s, which were s₀ and are the record's on 0, and the buffer afterwards, t, which was t₀
 pub record ClutTaken (element : List ℕ) (n m : ℕ) (s₀ : List ℕ) (t₀ : List Float) (r : ℕ) (s : List ℕ) (t : List Float) : Type 0 where

@@ -2,12 +2,13 @@
 use cell::Cell;
 use layout::Laid;
 ghost use Rattle.cubes.specs.Blends.{pyramid, prism, trilinear};
-ghost use Rattle.tenahvar.specs.Layout.{LaidOut, LaidBy};
+ghost use Rattle.tenahvar.specs.Layout.{LaidOut, LaidBy, Totalled};
 ghost use Rattle.lookup.specs.Table.{LookedBySizes};
 ghost use Rattle.tenahvar.specs.Node.{NodeFound};
 ghost use Rattle.tenahvar.specs.Slab.{SlabTaken};
 ghost use Rattle.tenahvar.specs.Weights.{RangedInto};
 ghost use Rattle.tenahvar.specs.Cubes.{BlendedAt};
+ghost use Rattle.clut.specs.Units.{UnitsRead};
 ghost use Rattle.tenahvar.specs.Clut.{ClutTaken};
 
 // The layout's number; on 0 the record's three rows are written, on a refusal nothing is.
@@ -33,6 +34,19 @@ pub extern "C" fn tenahvar_layout(
     *grid_filling_size = filling;
     let scale = lut.grid_scale;
     *grid_scale = scale;
+    0
+}
+
+// The layout's number; on 0 `total` is the entries that a table needs.
+#[no_mangle]
+pub extern "C" fn tenahvar_total(sizes: &[u8; 16], n: usize, m: usize, total: &mut u64) -> u32
+    ensures { λ r. ⌜ Totalled (now (sizes .entry)) n m (now (total .entry)) r (now (total .exit)) ⌝ }
+{
+    let laid = laid_out(*sizes, n, m);
+    if laid.refusal != 0 {
+        return laid.refusal;
+    }
+    *total = layout::entry_count(laid.lut);
     0
 }
 
@@ -127,6 +141,19 @@ pub extern "C" fn tenahvar_read_clut(
     0
 }
 
+// Values of one byte or of two as numbers from 0 to 1: refusals 14, 15, 8. On 0 the first `count` places of `entries` are set.
+#[no_mangle]
+pub extern "C" fn tenahvar_read_units(
+    bytes: &[u8],
+    precision: usize,
+    count: usize,
+    entries: &mut [f32],
+) -> u32
+    ensures { λ r. ⌜ UnitsRead (now (bytes .entry)) precision count (now (entries .entry)) r (now (entries .exit)) ⌝ }
+{
+    clut::read_units(bytes, precision, count, entries)
+}
+
 // The cells of all 256 codes on an axis of g lines: lower nodes, upper nodes and weights. Refused, nothing is written.
 #[no_mangle]
 pub extern "C" fn tenahvar_create_ranged_256(
@@ -137,14 +164,13 @@ pub extern "C" fn tenahvar_create_ranged_256(
 ) -> u32
     ensures { λ r. ⌜ RangedInto g (now (x .entry)) (now («x_n» .entry)) (now (w .entry)) r (now (x .exit)) (now («x_n» .exit)) (now (w .exit)) ⌝ }
 {
-    let ranged = weights::create_ranged_256(g);
-    if ranged.refusal != 0 {
-        return ranged.refusal;
+    if g == 0 {
+        return 3;
     }
-    let cells = ranged.weights;
     let mut i: usize = 0;
     while i < 256 {
-        let c = cells[i];
+        let ranged = weights::ranged_256(g, i as u8);
+        let c = ranged.cell;
         x[i] = c.x;
         x_n[i] = c.x_n;
         w[i] = c.w;

@@ -1,6 +1,6 @@
 -- `clut::is_precision` meets its contract. Assumes nothing.
 use borrow.Author.Tests.{eq-eqb, ne-eqb}
-use Rattle.clut.specs.Clut.{isPrecision}
+use Rattle.clut.specs.Units.{isPrecision}
 use Rattle.clut.proofs.is_precision.Statement.{statement}
 use Rattle.clut.proofs.is_precision.Tie as tie
 

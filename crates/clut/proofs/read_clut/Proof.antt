@@ -1,19 +1,21 @@
 -- `clut::read_clut` meets its contract: in each case the number is the definition's, and what was checked is what is read. Assumes nothing.
-use Prim.Native.Nat.{ℕ, _-_, _*_, _≤_}
-use mathlib.Core.Path.{_≡_, sym, ap, _∙_, subst}
+use Prim.Native.Nat.{ℕ, _-_, _*_}
+use mathlib.Core.Path.{_≡_, refl, sym, ap, _∙_, subst}
 use mathlib.Core.List.{List}
 use native.Mathlib.Nat.{le-of-eq}
 use native.Mathlib.Omega.{arith}
 use lib.ListN.{length, getD, take, drop, length-drop}
 use lib.Seq.{take-all}
 use borrow.Author.Needs.{needs}
-use Rattle.lists.specs.Buffer.{written}
+use Rattle.outcome.specs.Outcome.{onDone}
+use Rattle.outcome.proofs.Refused.{kept, given}
 use Rattle.layout.specs.declared.Laid.{Laid}
-use Rattle.layout.specs.Layout.{laidOf, limit, IsLayout}
+use Rattle.layout.specs.Layout.{laidOf, refusedBy, IsLayout}
 use Rattle.layout.proofs.BySizes.{laid-zeroed}
-use Rattle.layout.proofs.Laws.{first-filling, entries-fit}
-use Rattle.clut.specs.Clut.{precisionOf, entryAt, dataRefusal, layoutOf, totalOf, refusal}
-use Rattle.clut.proofs.Reading.{clut-refused, clut-done, clut-is-layout, short-element, layout-number, data-number, data-holds}
+use Rattle.layout.proofs.Laws.{first-filling}
+use Rattle.clut.specs.Units.{UnitsRead}
+use Rattle.clut.specs.Clut.{precisionOf, layoutOf, totalOf, ClutRead}
+use Rattle.clut.proofs.Reading.{clut-refused, clut-units, clut-is-layout, short-element, layout-number, data-number}
 use Rattle.clut.proofs.read_clut.Statement.{statement}
 use Rattle.clut.proofs.read_clut.Tie as tie
 
@@ -38,13 +40,18 @@ total-is c =
 rest-is : (k : ℕ) (xs : List ℕ) → take (length xs - k) (drop k xs) ≡ drop k xs
 rest-is k xs = take-all (length xs - k) (drop k xs) (le-of-eq (length-drop k xs))
 
-number-is : (c : tie.After-data-refusal) →
-    let a = c .before .before .before .before .before .before .before .before .before .before .before .args in c .data-refusal .result ≡ refusal (a .element .now) (a .n) (a .m) (length (a .entries .now))
-number-is c =
-    let a = c .before .before .before .before .before .before .before .before .before .before .before .args in
-    c .data-refusal .ensures
-    ∙ (λ i. dataRefusal (precisionOf (a .element .now)) (length (rest-is 20 (a .element .now) i)) (total-is (c .before .before .before) i) (length (a .entries .now)))
-    ∙ data-number (a .element .now) (a .n) (a .m) (length (a .entries .now)) (c .before .before .before .before .before .before .before .before .if1 .left) (accepted (c .before .before .before .before))
+-- what `read_units` answered of it, and what the element's answer then is
+answered : (c : tie.After-read-units) → let a = c .before .before .before .before .before .before .before .before .before .before .before .before .args in
+    (r : Laid) → r ≡ onDone (c .read-units .result) (layoutOf (a .element .now) (a .n) (a .m)) (refusedBy (c .read-units .result))
+    → ClutRead (a .element .now) (a .n) (a .m) (a .entries .now) r (c .read-units .last .1 .1 .1 .0)
+answered c r answer =
+    let a = c .before .before .before .before .before .before .before .before .before .before .before .before .args in
+    let now = c .read-units .last .1 .1 .1 .0 in
+    let counted = subst (λ (total : ℕ). UnitsRead (take (length (a .element .now) - 20) (drop 20 (a .element .now))) (precisionOf (a .element .now)) total (a .entries .now) (c .read-units .result) now)
+    (total-is (c .before .before .before .before)) (c .read-units .ensures) in
+    let units = subst (λ (bytes : List ℕ). UnitsRead bytes (precisionOf (a .element .now)) (totalOf (a .element .now) (a .n) (a .m)) (a .entries .now) (c .read-units .result) now) (rest-is 20 (a .element .now)) counted in
+    clut-units (a .element .now) (a .n) (a .m) (a .entries .now) _ _ units
+    (data-number (a .element .now) (a .n) (a .m) (length (a .entries .now)) (c .before .before .before .before .before .before .before .before .before .if1 .left) (accepted (c .before .before .before .before .before))) r answer
 
 pub read-clut-spec : {M : Type 1} → statement M
 read-clut-spec =
@@ -61,16 +68,14 @@ read-clut-spec =
     (layout-number (a .element .now) (a .n) (a .m) _ (c .before .before .before .before .if1 .left) refused) _ (laid (c .before .before) ∙ laid-zeroed _ _ _ refused))
     (λ c κs. search needs)
     (λ c. search needs)
+    (λ c. search (needs, c .shared-slice-known2 .given 16))
     (λ c. search needs)
     (λ c. search needs)
     (λ c. search needs)
-    (λ c κs. subst (λ (k : ℕ). k ≤ limit) (sym (total-is (c .before .before))) (entries-fit _ (is-layout (c .before .before .before))))
     (λ c κs. search needs)
-    (λ c. let a = c .before .before .before .before .before .before .before .before .before .before .before .before .before .args in
-    clut-refused (a .element .now) (a .n) (a .m) (a .entries .now) _ (c .before .if3 .taken) (number-is (c .before .before)) _ (c .refused2 .ensures))
-    (λ c. search (needs, c .before .before .before .before .before .before .before .before .before .before .before .shared-slice-known .given 16))
-    (λ c κs. data-holds _ _ _ _ (sym (c .before .before .data-refusal .ensures) ∙ c .before .if3 .left))
+    (λ c κs. search needs)
     (λ c. search needs)
-    (λ c. let a = c .before .before .before .before .before .before .before .before .before .before .before .before .before .before .before .before .args in
-    clut-done (a .element .now) (a .n) (a .m) (a .entries .now) (sym (c .before .before .before .before .if3 .left) ∙ number-is (c .before .before .before .before .before)) _ (laid (c .before .before .before .before .before .before .before .before .before .before .before)) _
-    (c .before .before .read .ensures ∙ λ i. written (entryAt (precisionOf (a .element .now)) (rest-is 20 (a .element .now) i)) (total-is (c .before .before .before .before .before .before .before .before) i) (a .entries .now))))
+    (λ c. answered (c .before .before .before .before) _ (c .refused2 .ensures ∙ kept (c .before .before .before .before .read-units .result) _ _ (c .before .if3 .taken) refl))
+    (λ c. search needs)
+    (λ c. answered (c .before .before .before) _
+    (laid (c .before .before .before .before .before .before .before .before .before .before) ∙ given (c .before .before .before .read-units .result) _ _ (sym (c .if3 .left)))))

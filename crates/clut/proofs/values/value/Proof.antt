@@ -12,7 +12,7 @@ use mir.Val.{Fits}
 use borrow.Author.Needs.{needs, fits-under}
 use Rattle.lists.specs.Bytes.{bigEndian}
 use Rattle.lists.proofs.Bytes.{big-next}
-use Rattle.clut.specs.Clut.{valueAt}
+use Rattle.clut.specs.Units.{valueAt}
 use Rattle.clut.proofs.values.value.Statement.{statement}
 use Rattle.clut.proofs.values.value.Tie as tie
 
