@@ -9,34 +9,27 @@ use borrow.Author.Needs.{needs}
 use Rattle.lists.specs.Buffer.{written}
 use Rattle.lists.proofs.Buffer.{length-written}
 use Rattle.clut.specs.Units.{entryAt}
-use Rattle.clut.proofs.Entries.{room-of, one-more}
+use Rattle.clut.proofs.Entries.{one-more, four-left}
 use Rattle.clut.proofs.values.fours.Statement.{statement}
 use Rattle.clut.proofs.values.fours.Tie as tie
 
 abbrev Inv-loop : tie.InvT-loop
-Inv-loop bytes width most entries₀ count e₀ entries e = (e ≤ count) × (entries ≡ written (entryAt width bytes) e entries₀)
+Inv-loop bytes entries₀ count e₀ entries e = (e ≤ count) × (entries ≡ written (entryAt 2 bytes) e entries₀) × (e % 4 ≡ 0)
 
 abbrev μ-loop : tie.MeasureT-loop
-μ-loop bytes width most entries₀ count e₀ entries e = count - e
-
--- the sum does not wrap: a place takes four bytes
-unwrapped : (e count places r : ℕ) → e ≤ count → count ≤ places → places * 4 < 18446744073709551616 → r ≡ (e + 4) % 18446744073709551616 → r ≤ count → e + 4 ≤ count
-unwrapped e count places r h held fits is l = omega arith
+μ-loop bytes entries₀ count e₀ entries e = count - e
 
 -- four are there: of values
-four : (c : tie.Then1 Inv-loop μ-loop) → c .before .before .loop .e + 4 ≤ c .before .before .before .before .before .args .count
-four c = unwrapped _ _ _ _ (c .before .before .loop .inv .0) (c .before .before .before .before .before .pre .1 .1) (omega arith) (c .before .wrapping-add-usize .ensures) (c .if1 .taken)
+four : (c : tie.In-loop Inv-loop μ-loop) → c .before .loop .e + 4 ≤ c .before .before .before .before .args .count
+four c = let l = c .before .loop in four-left _ (l .e) (l .inv .2) (l .inv .0) (c .loop-test .taken)
 
 -- what an entry asks
-asked : (c : tie.Then1 Inv-loop μ-loop) (at : ℕ) → at < c .before .before .loop .e + 4
-    → let a = c .before .before .before .before .before .args in ((a .width ≤ 2) × (a .width * at + a .width ≤ length (a .bytes .now))) × (a .most ≡ 256 ^ a .width - 1)
-asked c at h =
-    let s = c .before .before .before .before .before in
-    ((s .pre .0 .0, room-of (s .args .width) at (s .args .count) _ (omega (arith, four c)) (s .pre .1 .0)), s .pre .0 .1)
+asked : (c : tie.In-loop Inv-loop μ-loop) (at : ℕ) → at < c .before .loop .e + 4 → ((2 ≤ 2) × (2 * at + 2 ≤ length (c .before .before .before .before .args .bytes .now))) × (65535 ≡ 256 ^ 2 - 1)
+asked c at h = ((omega arith, omega (arith, four c)), refl)
 
 -- and of places
-places : (c : tie.After-entry4 Inv-loop μ-loop) → c .before .before .before .before .before .before .loop .e + 4 ≤ length (c .before .before .before .before .before .before .loop .entries)
-places c = let l = c .before .before .before .before .before .before .loop in omega (arith, four (c .before .before .before .before), ap length (l .inv .1) ∙ length-written _ (l .e) _)
+places : (c : tie.After-entry4 Inv-loop μ-loop) → c .before .before .before .before .before .loop .e + 4 ≤ length (c .before .before .before .before .before .loop .entries)
+places c = let l = c .before .before .before .before .before .loop in omega (arith, four (c .before .before .before .before), ap length (l .inv .1) ∙ length-written _ (l .e) _)
 
 four-more : (f : ℕ → Float) (e : ℕ) (old now : List Float) (a b c d : Float) → now ≡ written f e old → a ≡ f e → b ≡ f (e + 1) → c ≡ f (e + 2) → d ≡ f (e + 3)
     → set (set (set (set now e a) (e + 1) b) (e + 2) c) (e + 3) d ≡ written f (e + 4) old
@@ -53,8 +46,7 @@ fours-spec =
     (tie.spec
     Inv-loop
     μ-loop
-    (λ c. (omega arith, refl))
-    (λ c κs. search needs)
+    (λ c. (omega arith, refl, refl))
     (λ c κs. asked c _ (omega arith))
     (λ c. search needs)
     (λ c κs. asked (c .before) _ (omega arith))
@@ -66,22 +58,23 @@ fours-spec =
     (λ c. omega (arith, places c))
     (λ c. let at = places c in search needs)
     (λ c. let at = places c in search needs)
-    (λ c. let l = c .before .before .before .before .before .before .loop in
+    (λ c. let l = c .before .before .before .before .before .loop in
     let at : l .e + 1 < length (l .entries) = omega (arith, places c) in simp length-set (at))
     (λ c. let at = places c in search needs)
     (λ c. let at = places c in search needs)
-    (λ c. let l = c .before .before .before .before .before .before .loop in
+    (λ c. let l = c .before .before .before .before .before .loop in
     let at : l .e + 2 < length (l .entries) = omega (arith, places c) in simp length-set (at))
     (λ c. let at = places c in search needs)
     (λ c. let at = places c in search needs)
-    (λ c. let l = c .before .before .before .before .before .before .loop in
+    (λ c. let l = c .before .before .before .before .before .loop in
     let at : l .e + 3 < length (l .entries) = omega (arith, places c) in simp length-set (at))
     (λ c. let at = places c in search needs)
     (λ c. omega (arith, four (c .before .before .before .before)))
-    (λ c. let l = c .before .before .before .before .before .before .loop in
-    let a = c .before .before .before .before .before .before .before .before .before .args in (
+    (λ c. let l = c .before .before .before .before .before .loop in
+    let a = c .before .before .before .before .before .before .before .before .args in (
       four (c .before .before .before .before),
-      four-more (entryAt (a .width) (a .bytes .now)) (l .e) (a .entries .now) (l .entries) _ _ _ _ (l .inv .1) (c .before .before .before .entry .ensures) (c .before .before .entry2 .ensures) (c .before .entry3 .ensures) (c .entry4 .ensures),
+      four-more (entryAt 2 (a .bytes .now)) (l .e) (a .entries .now) (l .entries) _ _ _ _ (l .inv .1) (c .before .before .before .entry .ensures) (c .before .before .entry2 .ensures) (c .before .entry3 .ensures) (c .entry4 .ensures),
+      omega (arith, l .inv .2),
     ))
-    (λ c. ap length (c .before .before .loop .inv .1) ∙ length-written _ (c .before .before .loop .e) _)
-    (λ c. (c .before .before .loop .inv .0, c .before .before .loop .inv .1)))
+    (λ c. ap length (c .before .loop .inv .1) ∙ length-written _ (c .before .loop .e) _)
+    (λ c. (c .before .loop .inv .0, c .before .loop .inv .1)))
