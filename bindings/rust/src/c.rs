@@ -22,6 +22,8 @@ extern "C" {
         grid_scale: &mut [f32; 16],
     ) -> u32;
 
+    pub fn tenahvar_total(sizes: &[u8; 16], n: usize, m: usize, total: &mut u64) -> u32;
+
     pub fn tenahvar_lookup(
         sizes: &[u8; 16],
         n: usize,
@@ -51,6 +53,15 @@ extern "C" {
         n: usize,
         m: usize,
         sizes: &mut [u8; 16],
+        entries: *mut f32,
+        entries_length: usize,
+    ) -> u32;
+
+    pub fn tenahvar_read_units(
+        data: *const u8,
+        data_length: usize,
+        precision: usize,
+        count: usize,
         entries: *mut f32,
         entries_length: usize,
     ) -> u32;

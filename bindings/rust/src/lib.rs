@@ -54,8 +54,10 @@ impl Grid {
 
     /// The entries that a table needs: the sizes of the `n` inks and `m`, multiplied. The refusals of [`layout`].
     pub fn total(&self) -> Result<usize, Refusal> {
-        let rows = layout(self)?;
-        Ok(rows.grid_filling_size[0] as usize * self.sizes[0] as usize)
+        let mut total = 0;
+        // SAFETY: the array has the length that is asked, and `total` is a local.
+        told(unsafe { c::tenahvar_total(&self.sizes, self.n, self.m, &mut total) })?;
+        Ok(total as usize)
     }
 }
 
@@ -165,6 +167,27 @@ pub fn read_clut(element: &[u8], n: usize, m: usize, entries: &mut [f32]) -> Res
         )
     };
     told(number).map(|()| grid)
+}
+
+/// Values of one byte (`precision` 1) or of two, the first counting most (2), as numbers from 0 to 1: `v / 255` or `v / 65535`. It sets the first `count`
+/// entries of `entries` and no others. For the table of an ICC.1 lut8Type or lut16Type, and for ink codes of 8 or 16 bits. Refusals 14, 15 and 8.
+pub fn read_units(
+    data: &[u8],
+    precision: usize,
+    count: usize,
+    entries: &mut [f32],
+) -> Result<(), Refusal> {
+    // SAFETY: each pointer goes with its slice's length, and the `&mut` overlaps nothing.
+    told(unsafe {
+        c::tenahvar_read_units(
+            data.as_ptr(),
+            data.len(),
+            precision,
+            count,
+            entries.as_mut_ptr(),
+            entries.len(),
+        )
+    })
 }
 
 /// Cuts out the table that remains when ink `j`, counted from 1, stands on grid line `k`, counted from 0: sets the first entries of `slab`, as many as

@@ -3,6 +3,7 @@ extern crate std;
 mod clut;
 mod sizes;
 mod slab;
+mod units;
 
 use super::*;
 use std::{string::ToString, vec, vec::Vec};
@@ -221,22 +222,32 @@ fn cubes() {
     }
 }
 
+/// The text of a number in the C header: `case K: return "TEXT";`.
+fn header_text(number: &str) -> std::string::String {
+    let header = include_str!("../../../include/tenahvar.h");
+    let from = header.find(number).unwrap() + number.len();
+    let text = header[from..].split('"').nth(1).unwrap();
+    text.to_string()
+}
+
 #[test]
-fn every_refusal_has_its_number_and_a_text() {
-    let numbers = (1..=15).filter(|&number| number != 4);
-    assert_eq!(
-        Refusal::ALL.map(Refusal::number).to_vec(),
-        numbers.collect::<Vec<_>>()
-    );
-    for refusal in &Refusal::ALL {
-        assert_eq!(told(refusal.number()), Err(*refusal));
-        assert!(!refusal.to_string().is_empty());
+fn every_refusal_has_its_number_and_the_header_s_text() {
+    for number in (1..=15).filter(|&number| number != 4) {
+        let refusal = told(number).unwrap_err();
+        assert_eq!(refusal.number(), number);
+        assert!(!matches!(refusal, Refusal::Other(_)));
+        let text = header_text(&std::format!("case {number}: return"));
+        assert_eq!(refusal.to_string(), text);
     }
     assert_eq!(told(0), Ok(()));
 }
 
 #[test]
-#[should_panic(expected = "the archive answers 4")]
-fn the_withdrawn_number_is_no_refusal() {
-    let _ = told(4);
+fn a_number_of_another_version_is_no_panic() {
+    for number in [4, 16, u32::MAX] {
+        let refusal = told(number).unwrap_err();
+        assert_eq!(refusal, Refusal::Other(number));
+        assert_eq!(refusal.number(), number);
+        assert_eq!(refusal.to_string(), header_text("default: return"));
+    }
 }
