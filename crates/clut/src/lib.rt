@@ -63,9 +63,9 @@ fn data_refusal(precision: usize, bytes: usize, count: usize, room: usize) -> u3
 pub fn read_units(bytes: &[u8], precision: usize, count: usize, entries: &mut [f32]) -> u32
     ensures { λ r. ⌜ UnitsRead (now (bytes .entry)) precision count (now (entries .entry)) r (now (entries .exit)) ⌝ }
 {
-    let number = data_refusal(precision, bytes.len(), count, entries.len());
-    if number != 0 {
-        return number;
+    let refusal = data_refusal(precision, bytes.len(), count, entries.len());
+    if refusal != 0 {
+        return refusal;
     }
     values::read(bytes, precision, entries, count);
     0

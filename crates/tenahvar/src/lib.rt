@@ -84,11 +84,11 @@ pub extern "C" fn tenahvar_node(
 ) -> u32
     ensures { λ r. ⌜ NodeFound (now (sizes .entry)) n m (now (table .entry)) (now (coordinates .entry)) (now (offset .entry)) r (now (offset .exit)) ⌝ }
 {
-    let laid = laid_out(*sizes, n, m);
-    if laid.refusal != 0 {
-        return laid.refusal;
+    let grid = laid_out(*sizes, n, m);
+    if grid.refusal != 0 {
+        return grid.refusal;
     }
-    let lut = laid.lut;
+    let lut = grid.lut;
     let refusal = lookup::node_refusal(lut, table, coordinates);
     if refusal != 0 {
         return refusal;
