@@ -26,12 +26,12 @@ fn main() {
 }
 
 // Where a named folder may lie. Cargo starts this program in the package's folder and does not say where it was called itself:
-// a shell does, in PWD. So a relative name counts from there, else from the repository's root, else from the package.
+// a shell does, in PWD. So a relative name counts from there, else from the repository's root, else from the package;
+// an absolute one stays as it is, wherever it is joined.
 fn places(named: &Path, repository: &Path, package: &Path) -> Vec<PathBuf> {
-    if named.is_absolute() {
-        return vec![named.to_path_buf()];
+    if named.is_relative() {
+        println!("cargo:rerun-if-env-changed=PWD");
     }
-    println!("cargo:rerun-if-env-changed=PWD");
     let caller = env::var_os("PWD").map(PathBuf::from);
     let mut places = Vec::new();
     for start in [caller.as_deref(), Some(repository), Some(package)] {

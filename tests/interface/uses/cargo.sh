@@ -7,8 +7,8 @@ fi
 colours=$(cat examples/lookup.out)
 repository=$work/rust
 package=$repository/bindings/rust
-here=$work/rust-here
-mkdir -p "$package" "$here/lib" "$repository"/{lib,target/native,target/staticlib}
+caller=$work/caller
+mkdir -p "$package" "$caller/lib" "$repository"/{lib,target/native,target/staticlib}
 cp -R examples "$repository/"
 cp -R bindings/rust/{Cargo.toml,Cargo.lock,build.rs,src} "$package/"
 
@@ -25,19 +25,19 @@ complaint() { example "$@" 2>&1 | sed -n '/^ *--- stderr$/,$s/^  //p' | tail -n 
 archive=$lib/libtenahvar.a
 named="TENAHVAR_LIB_DIR names the folder that it lies in; an absolute path is always understood"
 expect 0 "$colours" "" example / TENAHVAR_LIB_DIR="$lib"
-cp "$archive" "$here/lib/"
+cp "$archive" "$caller/lib/"
 echo "no archive" >"$repository/lib/libtenahvar.a"
-expect 0 "$colours" "" example "$here" TENAHVAR_LIB_DIR=lib
+expect 0 "$colours" "" example "$caller" TENAHVAR_LIB_DIR=lib
 rm "$repository/lib/libtenahvar.a"
 expect 101 "no libtenahvar.a in $work/lib, nor in $repository/lib, nor in $package/lib
 $named" "" complaint "$work" TENAHVAR_LIB_DIR=lib
 expect 101 "no libtenahvar.a in $repository/lib, nor in $package/lib
-$named" "" complaint "$here" -u PWD TENAHVAR_LIB_DIR=lib
-expect 101 "no libtenahvar.a in $here
-$named" "" complaint / TENAHVAR_LIB_DIR="$here"
+$named" "" complaint "$caller" -u PWD TENAHVAR_LIB_DIR=lib
+expect 101 "no libtenahvar.a in $caller
+$named" "" complaint / TENAHVAR_LIB_DIR="$caller"
 cp "$archive" "$repository/lib/"
 expect 0 "$colours" "" example "$work" TENAHVAR_LIB_DIR=lib
-expect 0 "$colours" "" example "$here" -u PWD TENAHVAR_LIB_DIR=../../lib
+expect 0 "$colours" "" example "$caller" -u PWD TENAHVAR_LIB_DIR=../../lib
 
 # No folder is named: rt's archive comes first on x86-64, and elsewhere the native one alone counts.
 advice="build it in the repository, by \`rt staticlib tenahvar\`, or for Arm by \`tests/native-staticlib tenahvar\`;
@@ -45,15 +45,15 @@ or name the folder that it lies in: TENAHVAR_LIB_DIR=FOLDER"
 if [ "$(uname -m)" = x86_64 ]; then first=staticlib second=native; else first=native second=staticlib; fi
 cp "$archive" "$repository/target/$first/"
 echo "no archive" >"$repository/target/$second/libtenahvar.a"
-expect 0 "$colours" "" example "$here" TENAHVAR_LIB_DIR=
+expect 0 "$colours" "" example "$caller" TENAHVAR_LIB_DIR=
 mv "$repository/target/$first/libtenahvar.a" "$repository/target/$second/"
 if [ "$first" = staticlib ]; then
-    expect 0 "$colours" "" example "$here"
+    expect 0 "$colours" "" example "$caller"
     rm "$repository/target/native/libtenahvar.a"
     expect 101 "no libtenahvar.a in $repository/target/staticlib, nor in $repository/target/native
-$advice" "" complaint "$here"
+$advice" "" complaint "$caller"
 else
     expect 101 "no libtenahvar.a in $repository/target/native
-$advice" "" complaint "$here"
+$advice" "" complaint "$caller"
 fi
 counted "the crate's build"

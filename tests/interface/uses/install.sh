@@ -9,7 +9,7 @@ expect 0 "$usage" "" without_rt bash "$install" --help
 expect 0 "$usage" "" without_rt bash "$install" -h
 expect 2 "" "$usage" without_rt bash "$install"
 expect 2 "" "install: PREFIX is empty" without_rt bash "$install" ""
-expect 2 "" "install: no option '--prefix=/usr': bash install PREFIX" without_rt bash "$install" --prefix=/usr
+expect 2 "" "install: no option '--prefix=lib': bash install PREFIX" without_rt bash "$install" --prefix=lib
 expect 2 "" "install: 2 words, and one is wanted: bash install PREFIX" without_rt bash "$install" "$prefix" lib
 expect 1 "" "install: cannot write to $work/out/here: Not a directory" without_rt bash "$install" "$work/out/here"
 expect 3 "" "install: no rt in PATH: the library needs the Rattle toolchain" without_rt bash "$install" "$prefix"
@@ -47,15 +47,18 @@ installed "$prefix" "$made/staticlib/libtenahvar.a"
 prover <<<'echo "rt: slab NOT PROVED (exit 1, 3 s)"; exit 1'
 expect 3 "" "$first"$'\nrt: slab NOT PROVED (exit 1, 3 s)\n'"$failed" with_rt bash "$install" "$prefix"
 machine aarch64
-expect 3 "" "$first"$'\nrt: slab NOT PROVED (exit 1, 3 s)\n'"$failed" with_rt bash "$install" "$prefix"
-prover <<<'[ "$*" = "check tenahvar" ] || exit 8; echo "rt: slab proved (3 s)"'
-script "$scratch/repository/tests/native-staticlib" <<<'exit 1'
-expect 3 "" "$first"$'\nrt: slab proved (3 s)\n'"$failed" with_rt bash "$install" "$prefix"
-script "$scratch/repository/tests/native-staticlib" <<'END'
+native=$scratch/repository/tests/native-staticlib
+script "$native" <<'END'
 [ "$*" = tenahvar ] || exit 8
 mkdir -p target/native
 echo "the native archive" >target/native/libtenahvar.a
 END
+expect 3 "" "$first"$'\nrt: slab NOT PROVED (exit 1, 3 s)\n'"$failed" with_rt bash "$install" "$prefix"
+prover <<<'[ "$*" = "check tenahvar" ] || exit 8; echo "rt: slab proved (3 s)"'
+mv "$native" "$native.works"
+script "$native" <<<'exit 1'
+expect 3 "" "$first"$'\nrt: slab proved (3 s)\n'"$failed" with_rt bash "$install" "$prefix"
+mv "$native.works" "$native"
 expect 0 "$(listed "$prefix")" "$first
 rt: slab proved (3 s)
 install: this archive is the proved code compiled for aarch64, for tests and benchmarks. What ships is the archive for x86-64:
@@ -63,21 +66,20 @@ install: rt staticlib tenahvar && TENAHVAR_LIB_DIR=target/staticlib bash install
 installed "$prefix" "$made/native/libtenahvar.a"
 
 # An archive that is named: from here, from the repository's root, and where both have one from here. It may be the installed one itself.
-mkdir -p "$work/here/target/native"
-(cd "$work/here" && expect 0 "$(listed "$prefix")" "" without_rt env TENAHVAR_LIB_DIR=target/staticlib bash "$install" "$prefix")
+mkdir -p "$here/target/native"
+expect 0 "$(listed "$prefix")" "" without_rt env TENAHVAR_LIB_DIR=target/staticlib bash "$install" "$prefix"
 installed "$prefix" "$made/staticlib/libtenahvar.a"
-echo "another archive" >"$work/here/target/native/libtenahvar.a"
-(cd "$work/here" && expect 0 "$(listed "$prefix")" "" without_rt env TENAHVAR_LIB_DIR=target/native bash "$install" "$prefix")
-installed "$prefix" "$work/here/target/native/libtenahvar.a"
+echo "another archive" >"$here/target/native/libtenahvar.a"
+expect 0 "$(listed "$prefix")" "" without_rt env TENAHVAR_LIB_DIR=target/native bash "$install" "$prefix"
+installed "$prefix" "$here/target/native/libtenahvar.a"
 expect 0 "$(listed "$prefix")" "" without_rt env TENAHVAR_LIB_DIR="$prefix/lib" bash "$install" "$prefix"
-installed "$prefix" "$work/here/target/native/libtenahvar.a"
+installed "$prefix" "$here/target/native/libtenahvar.a"
 
 # Where it goes: a relative prefix, one with a blank, below another folder, and where a file cannot be written.
-(cd "$work/here" && expect 0 "$(listed "$work/here/a b")" "" without_rt env TENAHVAR_LIB_DIR="$lib" bash "$install" "a b")
-installed "$work/here/a b" "$lib/libtenahvar.a"
-(cd "$work/here" && expect 0 "$(listed "$work/here/stage/usr")" "" \
-    without_rt env DESTDIR=stage TENAHVAR_LIB_DIR="$lib" bash "$install" /usr)
-installed "$work/here/stage/usr" "$lib/libtenahvar.a"
+expect 0 "$(listed "$here/a b")" "" without_rt env TENAHVAR_LIB_DIR="$lib" bash "$install" "a b"
+installed "$here/a b" "$lib/libtenahvar.a"
+expect 0 "$(listed "$here/stage$prefix")" "" without_rt env DESTDIR=stage TENAHVAR_LIB_DIR="$lib" bash "$install" "$prefix"
+installed "$here/stage$prefix" "$lib/libtenahvar.a"
 mkdir "$prefix/lib/libtenahvar.a.new"
 expect 1 "install: $prefix/include/tenahvar.h" "install: cannot write $prefix/lib/libtenahvar.a: Is a directory" \
     without_rt env TENAHVAR_LIB_DIR="$lib" bash "$install" "$prefix"
@@ -114,7 +116,9 @@ for place in "$prefix" "$work/elsewhere/moved"; do
     [ -e "$place" ] || mv "$prefix" "$place"
     [ "$(flags "$place" --modversion)" = "$version" ] || wrongly "the installed version is $(flags "$place" --modversion), not $version"
     # shellcheck disable=SC2046
-    "${CC:-cc}" -std=c99 -Wall -Wextra -Werror -pedantic examples/lookup.c $(flags "$place" --cflags --libs) -o "$work/lookup"
+    "${CC:-cc}" -std=c99 -Wall -Wextra -Werror -pedantic -MD -MF "$work/used" examples/lookup.c $(flags "$place" --cflags --libs) \
+        -Wl,-t -o "$work/lookup" >"$work/linked"
+    for file in used linked; do grep -qF "$place/" "$work/$file" || wrongly "not compiled with the files in $place"; done
     expect 0 "$(cat examples/lookup.out)" "" "$work/lookup"
 done
 counted install

@@ -76,7 +76,7 @@ rt: probe proved (11 s)
 rt: ok, 3 crates proved
 END
 prover <<<'echo "rt: probe proved (unchanged since it was last proved)"'
-(cd / && expect 0 "$answer" "" with_rt bash "$look" 2 1 2 255 0 255)
+expect 0 "$answer" "" with_rt bash "$look" 2 1 2 255 0 255
 ln -s "$look" "$scratch/colour"
 expect 0 "$answer" "" with_rt bash "$scratch/colour" 2 1 2 255 0 255
 
