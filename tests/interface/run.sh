@@ -127,4 +127,5 @@ examples "$built"
 whole "$built/profile"
 cut_off "$work/cut-rust.out" "$built/profile"
 diff "$work/cut-c.out" "$work/cut-rust.out" || { say "of a profile that was cut off examples/profile.c (<) and .rs (>) say different things"; exit 1; }
+tests/interface/uses.sh
 say "passed"
