@@ -5,4 +5,5 @@ pub mod Facts
 pub mod Order
 pub mod Laws
 pub mod Rows
+pub mod Lengths
 pub mod Unique

@@ -13,6 +13,8 @@ use Rattle.layout.proofs.is_layout.Kinds as is-layout-kinds
 use Rattle.layout.proofs.is_layout.Reads as is-layout-reads
 use Rattle.layout.proofs.entry_count.Kinds as entry-count-kinds
 use Rattle.layout.proofs.entry_count.Reads as entry-count-reads
+use Rattle.layout.proofs.length_refusal.Kinds as length-refusal-kinds
+use Rattle.layout.proofs.length_refusal.Reads as length-refusal-reads
 use Rattle.layout.proofs.entry_offset.Kinds as entry-offset-kinds
 use Rattle.layout.proofs.entry_offset.Reads as entry-offset-reads
 
@@ -33,6 +35,9 @@ is-layout-unique κs a x y ws vs p q = (decided x y p q, refl)
 pub entry-count-unique : OneOutcome 0 entry-count-kinds.ps entry-count-kinds.r entry-count-reads.Post
 entry-count-unique κs a x y ws vs p q = (p ∙ sym q, refl)
 
+pub length-refusal-unique : OneOutcome 0 length-refusal-kinds.ps length-refusal-kinds.r length-refusal-reads.Post
+length-refusal-unique κs a x y ws vs p q = (p ∙ sym q, refl)
+
 pub entry-offset-unique : OneOutcome 0 entry-offset-kinds.ps entry-offset-kinds.r entry-offset-reads.Post
 entry-offset-unique κs a x y ws vs p q = ((λ i. record { 0 = (p ∙ sym q) i }), refl)
 
@@ -51,6 +56,9 @@ is-layout-asks-nothing κs a = tt
 
 pub entry-count-asks-nothing : (κs : _) (a : _) → entry-count-reads.Pre κs a
 entry-count-asks-nothing κs a = tt
+
+pub length-refusal-asks-nothing : (κs : _) (a : _) → length-refusal-reads.Pre κs a
+length-refusal-asks-nothing κs a = tt
 
 pub entry-offset-asks-nothing : (κs : _) (a : _) → entry-offset-reads.Pre κs a
 entry-offset-asks-nothing κs a = tt

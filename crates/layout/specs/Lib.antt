@@ -2,3 +2,4 @@ pub mod Order
 pub mod Layout
 pub mod Places
 pub mod Tested
+pub mod Lengths

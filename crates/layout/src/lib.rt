@@ -8,6 +8,7 @@ ghost use lib.ListN.{take, getD};
 ghost use Rattle.outcome.specs.Outcome.{Decides};
 ghost use Rattle.binary32.specs.Numbers.{plusZero, ofWhole};
 ghost use Rattle.layout.specs.Layout.{isCount, stride, places, refusedBy, laidOf, IsLayout, FillingOf};
+ghost use Rattle.layout.specs.Lengths.{lengthRefusal};
 ghost use Rattle.layout.specs.Tested.{Tested, Fills};
 
 // The record of a layout. The strides count nodes, the filling sizes count table entries; unused sizes are 0.
@@ -46,6 +47,20 @@ pub fn entry_count(lut: MultidimensionalLut) -> u64
     let per_line = lut.grid_filling_size;
     let lines = lut.grid_sizes;
     (per_line[0] as u64) * (lines[0] as u64)
+}
+
+// 6 a table shorter than the total, 7 not as many inputs or coordinates as inks: the first that applies, and 0 where
+// none does.
+pub fn length_refusal(total: u64, n: usize, table: usize, given: usize) -> u32
+    ensures { λ r. ⌜ r ≡ lengthRefusal total n table given 0 ⌝ }
+{
+    if (table as u64) < total {
+        return 6;
+    }
+    if given != n {
+        return 7;
+    }
+    0
 }
 
 // A refusal has a record of zeros.

@@ -15,7 +15,8 @@ use Rattle.layout.specs.Layout.{laidOf, IsLayout, inkSizes}
 use Rattle.layout.specs.Order.{Steps}
 use Rattle.layout.proofs.BySizes.{laid-size, laid-sizes, laid-inks, laid-outputs}
 use Rattle.lookup.specs.Table.{answerAt, refusal, refusalBySizes, LookedBySizes}
-use Rattle.lookup.specs.Places.{Promised, answerIn, tested, Answered}
+use Rattle.layout.specs.Lengths.{lengthRefusal}
+use Rattle.lookup.specs.Places.{Promised, answerIn, Answered}
 use Rattle.lookup.proofs.Grid.{laid-of}
 
 moved : (f f′ s : List ℕ) (n n′ m m′ : ℕ) → f ≡ f′ → n ≡ n′ → m ≡ m′ → Promised f′ s n′ m′ → Promised f s n m
@@ -56,7 +57,7 @@ module _ (sizes : List ℕ) (n m : ℕ) (none : laidOf sizes n m .refusal ≡ 0)
     unfolding refusal
     number =
         answered .number
-        ∙ (λ i. tested (product (gs i) * outputs i) (inks i) (length table) (length inputs) (cond (ltb (length old) (outputs i)) 8 0))
+        ∙ (λ i. lengthRefusal (product (gs i) * outputs i) (inks i) (length table) (length inputs) (cond (ltb (length old) (outputs i)) 8 0))
         ∙ ap (λ (k : ℕ). orElse k (refusal true lut (length table) (length inputs) (length old))) (sym none)
 
     pub looked-by-sizes : LookedBySizes sizes n m table inputs old r now

@@ -1,7 +1,7 @@
 -- Laws on plain values, which the functions' proofs cite: comparing weights (Weights), the plan of three inks (Tetra), a part of the table and one ink and two
 -- (Inks), four and more (Further), cells within the table (Reach), the cells' places (Filling), distances and ICC.1's order (Distances), all inks of an accepted
--- layout (Grid), the layout by its sizes (BySizes), refusals (Refusals), a loop that sets an entry a turn (Turns). `Shown` has `node-empty`, and `Unique` that
--- each statement leaves one outcome.
+-- layout (Grid), the layout by its sizes (BySizes), refusals (Refusals), a loop that sets an entry a turn (Turns). `Unique` has that each statement
+-- leaves one outcome.
 mod Weights
 mod Tetra
 mod Inks
@@ -13,5 +13,4 @@ mod Grid
 mod BySizes
 mod Distances
 mod Refusals
-pub mod Shown
 pub mod Unique

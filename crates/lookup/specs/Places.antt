@@ -4,17 +4,15 @@ use Prim.Native.Nat.{ℕ, zero, suc, _+_, _*_, _≤_, _<_, max}
 use mathlib.Core.Path.{_≡_}
 use mathlib.Core.Bool.{Bool, true, false, not, cond}
 use mathlib.Core.List.{List, [], _∷_}
-use lib.Dec.{ltb, eqb}
+use lib.Dec.{ltb}
 use lib.Ieee.{Float, nan, le}
 use lib.ListN.{length, getD, drop}
-use Rattle.outcome.specs.Outcome.{Decides}
 use Rattle.binary32.specs.Blend.{lerp, terms, rise}
 use Rattle.lists.specs.Lists.{lastFirst, product}
 use Rattle.lists.specs.Buffer.{left}
 use Rattle.cell.specs.declared.Cell.{Cell}
-use Rattle.layout.specs.declared.MultidimensionalLut.{MultidimensionalLut}
 use Rattle.layout.specs.Order.{index, Steps}
-use Rattle.layout.specs.Layout.{IsLayout, entries}
+use Rattle.layout.specs.Lengths.{lengthRefusal}
 use Rattle.lookup.specs.Lookup.{Grid, node, lookup}
 use Rattle.lookup.specs.Table.{inkCell, cells}
 
@@ -138,23 +136,7 @@ pub record Promised (filling sizes : List ℕ) (n m : ℕ) : Type 0 where
 abbrev pub answerIn : List ℕ → ℕ → List Float → List Float → ℕ → Float
 answerIn gs m table xs o = lookup (λ ks. getD table (index gs ks * m + o) nan) (cells gs xs)
 
--- 6 a short table and 7 the number of inputs or coordinates, before others
-abbrev pub tested : ℕ → ℕ → ℕ → ℕ → ℕ → ℕ
-tested total n table given others =
-    cond (ltb table total) 6
-    (cond (not (eqb given n)) 7
-    others)
-
 -- what is owed after an accepted layout: the number r, and the answer buffer afterwards, `now`, which was `old`
 pub record Answered (gs : List ℕ) (n m : ℕ) (table inputs old : List Float) (r : ℕ) (now : List Float) : Type 0 where
-  pub number : r ≡ tested (product gs * m) n (length table) (length inputs) (cond (ltb (length old) m) 8 0)
+  pub number : r ≡ lengthRefusal (product gs * m) n (length table) (length inputs) (cond (ltb (length old) m) 8 0)
   pub entries : now ≡ left r (answerIn gs m table inputs) m old
-
--- the refusals that come first for the node reader, 9, 6 and 7, before others
-abbrev pub checks : Bool → MultidimensionalLut → ℕ → ℕ → ℕ → ℕ
-checks laid lut table given others = cond (not laid) 9 (tested (entries lut) (lut .«input_inks») table given others)
-
-pub record Checked (lut : MultidimensionalLut) (table given : ℕ) (r : ℕ) : Type 0 where
-  pub laid : Bool
-  pub decides : Decides laid (IsLayout lut)
-  pub number : r ≡ checks laid lut table given 0

@@ -1,19 +1,15 @@
-// The node reader and the lookups of one to fifteen inks.
+// The lookups of one to fifteen inks.
 mod blend;
-mod check;
 mod few;
-mod nodes;
 mod place;
 mod plan;
 
-use layout::EntryOffset;
 use layout::MultidimensionalLut;
 ghost use mathlib.Core.Path.{_≡_};
 ghost use Prim.Native.Nat.{_*_, _≤_};
 ghost use lib.ListN.{length};
 ghost use Rattle.lists.specs.Lists.{lastFirst, product};
 ghost use Rattle.lists.specs.Buffer.{written};
-ghost use Rattle.lookup.specs.Node.{NodeRefused, NodePlaced, NodeShown};
 ghost use Rattle.lookup.specs.Places.{answerIn, Promised, Answered};
 ghost use Rattle.lookup.specs.Table.{Looked, LookedBySizes};
 
@@ -66,7 +62,7 @@ fn answered(
     ensures { λ r. ⌜ Answered (lastFirst n (now (sizes .entry))) n m (now (table .entry)) (now (inputs .entry)) (now (answer .entry)) r (now (answer .exit)) ⌝ }
 {
     let total = (filling[0] as u64) * (sizes[0] as u64);
-    let refusal = check::sized(total, n, table.len(), inputs.len());
+    let refusal = layout::length_refusal(total, n, table.len(), inputs.len());
     if refusal != 0 {
         return refusal;
     }
@@ -108,43 +104,4 @@ pub fn lookup_by_sizes(
         return refusal;
     }
     answered(&filling, sizes, n, m, table, inputs, answer)
-}
-
-// The number of a call of `node` on the same arguments.
-pub fn node_refusal(lut: MultidimensionalLut, table: &[f32], coordinates: &[usize]) -> u32
-    ensures { λ r. ⌜ NodeRefused lut (now (table .entry)) (now (coordinates .entry)) r ⌝ }
-{
-    let refusal = check::refused(lut, table.len(), coordinates.len());
-    if refusal != 0 {
-        return refusal;
-    }
-    let sizes = lut.grid_sizes;
-    if !nodes::below(coordinates, sizes) {
-        return 10;
-    }
-    0
-}
-
-// The place of the node's first entry in the table; on a refusal 0.
-pub fn node_offset(lut: MultidimensionalLut, table: &[f32], coordinates: &[usize]) -> EntryOffset
-    ensures { λ r. ⌜ NodePlaced lut (now (table .entry)) (now (coordinates .entry)) (r .0) ⌝ }
-{
-    if node_refusal(lut, table, coordinates) != 0 {
-        return EntryOffset(0);
-    }
-    nodes::first_entry(lut, coordinates)
-}
-
-// The node's m entries, as the part of the table that holds them; on a refusal an empty part.
-pub fn node<'a>(lut: MultidimensionalLut, table: &'a [f32], coordinates: &[usize]) -> &'a [f32]
-    ensures { λ r. ⌜ NodeShown lut (now (table .entry)) (now (coordinates .entry)) (now r) ⌝ }
-{
-    if node_refusal(lut, table, coordinates) != 0 {
-        return &table[..0];
-    }
-    let first = nodes::first_entry(lut, coordinates);
-    let start = first.0 as usize;
-    let m = lut.output_inks;
-    let end = start + m;
-    &table[start..end]
 }

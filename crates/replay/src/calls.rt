@@ -76,8 +76,8 @@ fn show(
     from: usize,
 ) -> usize {
     let next = words::words(text, from, ks);
-    print::number(lookup::node_refusal(lut, table, ks) as u64);
-    print::floats(lookup::node(lut, table, ks));
+    print::number(nodes::node_refusal(lut, table, ks) as u64);
+    print::floats(nodes::node(lut, table, ks));
     print::end();
     next
 }

@@ -16,7 +16,7 @@ use Rattle.layout.specs.declared.Laid.{Laid}
 use Rattle.layout.specs.Order.{index}
 use Rattle.layout.specs.Layout.{laidOf, IsLayout, inkSizes, entries}
 use Rattle.layout.proofs.BySizes.{laid-is-layout, laid-outputs}
-use Rattle.lookup.specs.Node.{nodeRefusal, NodeRefused, NodePlaced}
+use Rattle.nodes.specs.Node.{nodeRefusal, NodeRefused, NodePlaced}
 use Rattle.slab.specs.Slab.{fewer, slab, refusal, SlabCut}
 use Rattle.tenahvar.specs.Slab.{slabNumber, SlabTaken}
 use Rattle.tenahvar.specs.Node.{nodeNumber, NodeFound}

@@ -8,7 +8,7 @@ use lib.ListN.{length}
 use Rattle.outcome.specs.Outcome.{orElse, onDone}
 use Rattle.layout.specs.Order.{index}
 use Rattle.layout.specs.Layout.{laidOf, inkSizes}
-use Rattle.lookup.specs.Node.{nodeRefusal}
+use Rattle.nodes.specs.Node.{nodeRefusal}
 
 -- 1, 2, 3, 5, then 6, 7, 10
 abbrev pub nodeNumber : List ℕ → ℕ → ℕ → ℕ → List ℕ → ℕ

@@ -89,11 +89,11 @@ pub extern "C" fn tenahvar_node(
         return grid.refusal;
     }
     let lut = grid.lut;
-    let refusal = lookup::node_refusal(lut, table, coordinates);
+    let refusal = nodes::node_refusal(lut, table, coordinates);
     if refusal != 0 {
         return refusal;
     }
-    let first = lookup::node_offset(lut, table, coordinates);
+    let first = nodes::node_offset(lut, table, coordinates);
     *offset = first.0 as usize;
     0
 }

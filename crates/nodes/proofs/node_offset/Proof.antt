@@ -1,9 +1,9 @@
--- `lookup::node_offset` meets its contract: 0 on a refusal, else the place of the node's first entry. Assumes nothing.
+-- `nodes::node_offset` meets its contract: 0 on a refusal, else the place of the node's first entry. Assumes nothing.
 use mathlib.Core.Path.{sym, _∙_}
 use Rattle.outcome.proofs.Refused.{kept, given}
-use Rattle.lookup.proofs.Refusals.{node-passed, node-layout, node-inside}
-use Rattle.lookup.proofs.node_offset.Statement.{statement}
-use Rattle.lookup.proofs.node_offset.Tie as tie
+use Rattle.nodes.proofs.Refusals.{node-passed, node-layout, node-inside}
+use Rattle.nodes.proofs.node_offset.Statement.{statement}
+use Rattle.nodes.proofs.node_offset.Tie as tie
 
 pub node-offset-spec : {M : Type 1} → statement M
 node-offset-spec =

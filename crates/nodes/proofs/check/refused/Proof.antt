@@ -1,13 +1,13 @@
--- `lookup::check::refused` meets its contract: 9 where the record is no layout's, else what the sizes say. Assumes nothing.
+-- `nodes::check::refused` meets its contract: 9 where the record is no layout's, else what the sizes say. Assumes nothing.
 use mathlib.Core.Path.{sym, ap, _∙_}
 use mathlib.Core.Bool.{Bool, cond, not}
 use Prim.Native.Nat.{ℕ}
 use borrow.Author.Tests.{not-false}
 use Rattle.layout.specs.Layout.{entries}
 use Rattle.layout.proofs.Laws.{first-filling}
-use Rattle.lookup.specs.Places.{tested}
-use Rattle.lookup.proofs.check.refused.Statement.{statement}
-use Rattle.lookup.proofs.check.refused.Tie as tie
+use Rattle.layout.specs.Lengths.{lengthRefusal}
+use Rattle.nodes.proofs.check.refused.Statement.{statement}
+use Rattle.nodes.proofs.check.refused.Tie as tie
 
 pub refused-spec : {M : Type 1} → statement M
 refused-spec =
@@ -24,5 +24,5 @@ refused-spec =
     record {
       laid = layout .result;
       decides = layout .ensures;
-      number = c .sized .ensures ∙ ap (λ (t : ℕ). tested t (s .args .lut .«input_inks») (s .args .table) (s .args .given) 0) total ∙ ap (λ (b : Bool). cond (not b) 9 (tested (entries (s .args .lut)) (s .args .lut .«input_inks») (s .args .table) (s .args .given) 0)) (sym is);
+      number = c .length-refusal .ensures ∙ ap (λ (t : ℕ). lengthRefusal t (s .args .lut .«input_inks») (s .args .table) (s .args .given) 0) total ∙ ap (λ (b : Bool). cond (not b) 9 (lengthRefusal (entries (s .args .lut)) (s .args .lut .«input_inks») (s .args .table) (s .args .given) 0)) (sym is);
     }))

@@ -1,4 +1,4 @@
--- `lookup::nodes::below` meets its contract: every coordinate passed is below the size of its ink. Assumes nothing.
+-- `nodes::coordinates::below` meets its contract: every coordinate passed is below the size of its ink. Assumes nothing.
 use Prim.Native.Nat.{ℕ, _-_, _≤_, _<_}
 use native.Mathlib.Omega.{arith}
 use mathlib.Core.Path.{_≡_, ap, sym, _∙_}
@@ -11,8 +11,8 @@ use Rattle.lists.specs.Lists.{lastFirst}
 use Rattle.lists.proofs.Lists.{reverse-all}
 use Rattle.layout.specs.Order.{inGrid}
 use Rattle.layout.proofs.Order.{in-grid-all, in-grid-fails}
-use Rattle.lookup.proofs.nodes.below.Statement.{statement}
-use Rattle.lookup.proofs.nodes.below.Tie as tie
+use Rattle.nodes.proofs.coordinates.below.Statement.{statement}
+use Rattle.nodes.proofs.coordinates.below.Tie as tie
 
 abbrev Inv-loop : tie.InvT-loop
 Inv-loop coordinates sizes i₀ i = (i ≤ length coordinates) × ((k : ℕ) → k < i → getD coordinates k 0 < getD sizes k 0)

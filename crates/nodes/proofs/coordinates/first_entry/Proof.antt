@@ -1,10 +1,10 @@
--- `lookup::nodes::first_entry` meets its contract. Assumes nothing.
+-- `nodes::coordinates::first_entry` meets its contract. Assumes nothing.
 use Prim.Native.Nat.{ℕ, _*_}
 use native.Mathlib.Omega.{arith}
 use mathlib.Core.Path.{ap, _∙_}
 use Rattle.layout.proofs.Laws.{outputs-to}
-use Rattle.lookup.proofs.nodes.first_entry.Statement.{statement}
-use Rattle.lookup.proofs.nodes.first_entry.Tie as tie
+use Rattle.nodes.proofs.coordinates.first_entry.Statement.{statement}
+use Rattle.nodes.proofs.coordinates.first_entry.Tie as tie
 
 pub first-entry-spec : {M : Type 1} → statement M
 first-entry-spec =

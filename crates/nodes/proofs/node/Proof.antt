@@ -1,10 +1,10 @@
--- `lookup::node` meets its contract: the node's entries where the number is 0, else an empty part. Assumes nothing.
+-- `nodes::node` meets its contract: the node's entries where the number is 0, else an empty part. Assumes nothing.
 use native.Mathlib.Omega.{arith}
 use mathlib.Core.Path.{refl}
-use Rattle.lookup.proofs.Refusals.{node-passed, node-layout, node-inside}
-use Rattle.lookup.proofs.Shown.{shown-nothing, node-stands, shown-node}
-use Rattle.lookup.proofs.node.Statement.{statement}
-use Rattle.lookup.proofs.node.Tie as tie
+use Rattle.nodes.proofs.Refusals.{node-passed, node-layout, node-inside}
+use Rattle.nodes.proofs.Shown.{shown-nothing, node-stands, shown-node}
+use Rattle.nodes.proofs.node.Statement.{statement}
+use Rattle.nodes.proofs.node.Tie as tie
 
 pub node-spec : {M : Type 1} → statement M
 node-spec =

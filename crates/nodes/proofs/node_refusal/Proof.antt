@@ -1,10 +1,10 @@
--- `lookup::node_refusal` meets its contract: each number is that of the first test that fails. Assumes nothing.
+-- `nodes::node_refusal` meets its contract: each number is that of the first test that fails. Assumes nothing.
 use mathlib.Core.Path.{subst}
 use mathlib.Core.Bool.{Bool, cond}
-use Rattle.lookup.specs.Node.{NodeRefused}
-use Rattle.lookup.proofs.Refusals.{node-refused, node-counted, node-tested}
-use Rattle.lookup.proofs.node_refusal.Statement.{statement}
-use Rattle.lookup.proofs.node_refusal.Tie as tie
+use Rattle.nodes.specs.Node.{NodeRefused}
+use Rattle.nodes.proofs.Refusals.{node-refused, node-counted, node-tested}
+use Rattle.nodes.proofs.node_refusal.Statement.{statement}
+use Rattle.nodes.proofs.node_refusal.Tie as tie
 
 pub node-refusal-spec : {M : Type 1} → statement M
 node-refusal-spec =

@@ -13,8 +13,8 @@ use Rattle.layout.specs.Layout.{inkSizes}
 use Rattle.layout.specs.Order.{index}
 use Rattle.layout.proofs.Laws.{outputs-from}
 use Rattle.layout.proofs.Order.{in-grid-within, entries-within}
-use Rattle.lookup.specs.Node.{nodeRefusal, nodeEntries, NodeRefused, NodeShown}
-use Rattle.lookup.proofs.Refusals.{node-passed, node-layout, node-inside}
+use Rattle.nodes.specs.Node.{nodeRefusal, nodeEntries, NodeRefused, NodeShown}
+use Rattle.nodes.proofs.Refusals.{node-passed, node-layout, node-inside}
 
 module _ (lut : MultidimensionalLut) (table : List Float) (coordinates : List ℕ) where
   nothing : (r : ℕ) → (r ≡ 0 → ⊥) → nodeEntries r lut table coordinates ≡ []

@@ -1,4 +1,4 @@
--- `lookup::nodes::number` meets its contract: after i inks the sum is that of the first i coordinates times their strides. Assumes nothing.
+-- `nodes::coordinates::number` meets its contract: after i inks the sum is that of the first i coordinates times their strides. Assumes nothing.
 use Prim.Native.Nat.{ℕ, _+_, _-_, _*_, _^_, _≤_, _<_}
 use native.Mathlib.Omega.{arith}
 use native.Mathlib.Nat.{le-trans, mul-le-mul}
@@ -19,8 +19,8 @@ use Rattle.layout.specs.Order.{index, inGrid, strided}
 use Rattle.layout.specs.Layout.{inkSizes}
 use Rattle.layout.proofs.Order.{in-grid-within, in-grid-at}
 use Rattle.layout.proofs.Laws.{inks-to, node-of, node-fits}
-use Rattle.lookup.proofs.nodes.number.Statement.{statement}
-use Rattle.lookup.proofs.nodes.number.Tie as tie
+use Rattle.nodes.proofs.coordinates.number.Statement.{statement}
+use Rattle.nodes.proofs.coordinates.number.Tie as tie
 
 abbrev Inv-loop : tie.InvT-loop
 Inv-loop coordinates strides sum₀ i₀ sum i = (i ≤ length coordinates) × (sum ≡ strided strides (reverse (take i coordinates))) × (sum ≤ i * 2 ^ 40)
