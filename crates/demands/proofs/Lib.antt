@@ -1,6 +1,6 @@
 -- Demand 3 (`Demands`) from the bottom up. `Each`: what holds at each node of the cells. `Lookups`, `Lines`: a lookup over cells and a grid function.
 -- `InkCells`: the cells of the inputs. `Rules`: one rule serves every ink. `Cuts`: demand 3 for any sizes. `Calls`: demand 3 by what the calls leave. `Fixed`: no fixed colour meets it. `Read`: demand 3
--- in a table that was read from a CLUT element.
+-- in a table that was read from a CLUT element or as plain values.
 pub mod Each
 pub mod Lookups
 pub mod Lines
