@@ -14,6 +14,7 @@ mod grids;
 mod huge;
 mod huge_cluts;
 mod huge_slabs;
+mod huge_units;
 mod layouts;
 mod library;
 mod limits;
@@ -25,6 +26,7 @@ mod skipped;
 mod slabs;
 mod strides;
 mod unequal;
+mod units;
 mod values;
 
 fn main() {
@@ -65,5 +67,7 @@ fn main() {
     down::all(run, rng, long);
     huge_slabs::all(run, rng, long);
     lines::all(run, rng, long);
+    units::all(run, rng, long);
+    huge_units::all(run, rng, long);
     run.end();
 }

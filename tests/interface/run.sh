@@ -16,9 +16,9 @@ export TENAHVAR_LIB_DIR
 archive=$TENAHVAR_LIB_DIR/libtenahvar.a
 cc=${CC:-cc}
 strict=(-Wall -Wextra -Werror -pedantic -Iinclude)
-calls=(calls clut slab)   # tests of the header
-shown=(lookup slab)       # examples that need no profile
-programs=(tests/interface/{calls,clut,slab,broken}.c examples/{lookup,slab,profile}.c)
+calls=(calls clut slab units)   # tests of the header
+shown=(lookup slab)             # examples that need no profile
+programs=(tests/interface/{calls,clut,slab,units,broken}.c examples/{lookup,slab,profile}.c)
 
 # compiled FOLDER FLAG..: every program, in FOLDER/tests or FOLDER/examples.
 compiled() {
@@ -28,8 +28,8 @@ compiled() {
     done
 }
 
-# The header's functions and the archive's are the same.
-"$cc" -E -P include/tenahvar.h | grep -o 'tenahvar_[a-z0-9_]* *(' | tr -d ' (' | sort -u >"$work/declared"
+# The header's functions and the archive's are the same, but for one that the header has itself.
+"$cc" -E -P include/tenahvar.h | grep -v '^static inline ' | grep -o 'tenahvar_[a-z0-9_]* *(' | tr -d ' (' | sort -u >"$work/declared"
 nm -g --defined-only "$archive" 2>"$work/log" | awk '$3 ~ /^tenahvar_/ { print $3 }' | sort -u >"$work/defined"
 diff "$work/declared" "$work/defined" || { say "declared (<) and defined (>) differ"; exit 1; }
 say "$(wc -l <"$work/declared") functions declared, each in the archive, and no other there"
