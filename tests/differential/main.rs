@@ -29,16 +29,21 @@ mod unequal;
 mod units;
 mod values;
 
-fn main() {
-    let words: Vec<String> = std::env::args().skip(1).collect();
-    let number = |place: usize, default| words.get(place).map_or(default, |w| w.parse().expect("a number"));
-    let (count, seed) = (number(0, 200_000), number(1, 1));
-    let long = words.get(2).is_some_and(|w| w == "long");
+/// Says what will be compared, and what the oracle is not asked.
+fn announce(count: u64, seed: u64, long: bool) {
     println!("differential: {count} random lookups, seed {seed}{}", if long { ", long" } else { "" });
     println!("An input of -0.0 is handed to the Rust text as +0.0: Rust leaves the sign of its clip open.");
     if values::SIGNALLING_LEFT_OUT {
         println!("Signalling NaN inputs are left out on Arm: the compiled Rust clips them to 1 there, document 01 to +0.0.");
     }
+}
+
+fn main() {
+    let words: Vec<String> = std::env::args().skip(1).collect();
+    let number = |place: usize, default| words.get(place).map_or(default, |w| w.parse().expect("a number"));
+    let (count, seed) = (number(0, 200_000), number(1, 1));
+    let long = words.get(2).is_some_and(|w| w == "long");
+    announce(count, seed, long);
     let (run, rng) = (&mut case::Run::new(), &mut values::Rng(seed));
     skipped::condition();
     skipped::codes();
