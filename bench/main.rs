@@ -3,8 +3,8 @@
 //!
 //! Then the time of a lookup with a size for each ink, which the Rust text has not: its bits are held to the definition's (tests/oracle).
 //!
-//! Then the time of reading a CLUT element, beside a plain Rust loop: the crate's own reading rounds twice. Then that of cutting a slab, which the
-//! crate does not, beside a plain Rust loop too.
+//! Then the time of reading a CLUT element, beside a plain Rust loop: the crate's own reading rounds twice. The same of values without a
+//! header, and then that of cutting a slab, which the crate does not, beside a plain Rust loop too.
 //!
 //! The Rust text is compiled with document 01's helpers, its record is made once and its call checks nothing but what a
 //! slice does. The library's call lays out and checks every refusal each time.
@@ -25,6 +25,9 @@ const GRIDS: [(usize, u8); 14] =
     [(1, 255), (2, 33), (3, 33), (4, 17), (5, 9), (6, 6), (8, 4), (10, 3), (12, 2), (15, 2), (1, 2), (2, 2), (3, 2), (4, 2)];
 /// A size for each ink, of tables as large.
 const OWN_SIZES: [&[u8]; 3] = [&[17, 17, 9, 17], &[9, 9, 9, 9, 5, 3], &[3, 3, 3, 3, 2, 2, 2, 2, 2, 2, 2, 2]];
+/// How many values without a header: those of a table of 17 lines, four inks and three outputs; more than a cache holds; and few, where a
+/// call's fixed cost shows.
+const VALUES: [usize; 3] = [250_563, 4_194_304, 64];
 const POINTS: usize = 512;
 const ROUNDS: usize = 9;
 
@@ -54,6 +57,12 @@ fn main() {
         let (rust, library) = reading(rng, precision);
         println!("{precision:>9} {rust:>12.2} {library:>12.2} {:>14.2}", library / rust);
     }
+    println!("ns per value read without a header");
+    println!("{:>9} {:>9} {:>12} {:>12} {:>14}", "precision", "values", "Rust loop", "library", "library/Rust");
+    for (precision, count) in [1, 2].into_iter().flat_map(|precision| VALUES.map(|count| (precision, count))) {
+        let (rust, library) = units(rng, precision, count);
+        println!("{precision:>9} {count:>9} {rust:>12.2} {library:>12.2} {:>14.2}", library / rust);
+    }
     println!("ns per entry of a slab cut, g 17, n 4, m 3");
     println!("{:>9} {:>12} {:>12} {:>14}", "ink", "Rust loop", "library", "library/Rust");
     for j in 1..=4 {
@@ -62,19 +71,28 @@ fn main() {
     }
 }
 
+/// The best time of each in ns, of many rounds in turn.
+fn in_turn(rust: impl FnMut(), library: impl FnMut()) -> (f64, f64) {
+    fn timed(mut call: impl FnMut()) -> f64 {
+        let began = Instant::now();
+        call();
+        began.elapsed().as_nanos() as f64
+    }
+    let (mut rust, mut library, mut best) = (rust, library, (f64::MAX, f64::MAX));
+    for _ in 0..20 * ROUNDS {
+        best = (best.0.min(timed(&mut rust)), best.1.min(timed(&mut library)));
+    }
+    best
+}
+
 /// The best time of each, in ns for one entry of the slab of ink j at line 8.
 fn cutting(rng: &mut values::Rng, j: usize) -> (f64, f64) {
     let table: Vec<f32> = (0..17usize.pow(4) * 3).map(|_| rng.unit()).collect();
     let (mut a, mut b) = (vec![0.0f32; table.len() / 17], vec![1.0f32; table.len() / 17]);
-    let mut best = (f64::MAX, f64::MAX);
-    for _ in 0..20 * ROUNDS {
-        let began = Instant::now();
-        rust_runs(black_box(&table), 17usize.pow(4 - j as u32) * 3, black_box(8), &mut a);
-        best.0 = best.0.min(began.elapsed().as_nanos() as f64);
-        let began = Instant::now();
-        assert_eq!(library::cut_slab(&[17; 16], 4, 3, black_box(&table), j, black_box(8), &mut b), 0);
-        best.1 = best.1.min(began.elapsed().as_nanos() as f64);
-    }
+    let best = in_turn(
+        || rust_runs(black_box(&table), 17usize.pow(4 - j as u32) * 3, black_box(8), &mut a),
+        || assert_eq!(library::cut_slab(&[17; 16], 4, 3, black_box(&table), j, black_box(8), &mut b), 0),
+    );
     assert!(a == b, "ink {j}: not the same slab");
     (best.0 / a.len() as f64, best.1 / a.len() as f64)
 }
@@ -93,23 +111,30 @@ fn reading(rng: &mut values::Rng, precision: usize) -> (f64, f64) {
     element[..16].fill(17);
     element[16] = precision as u8;
     let (mut a, mut b, mut sizes) = (vec![0.0f32; total], vec![1.0f32; total], [0; 16]);
-    let mut best = (f64::MAX, f64::MAX);
-    for _ in 0..20 * ROUNDS {
-        let began = Instant::now();
-        rust_loop(black_box(&element), &mut a);
-        best.0 = best.0.min(began.elapsed().as_nanos() as f64);
-        let began = Instant::now();
-        assert_eq!(library::read_clut(black_box(&element), 4, 3, &mut sizes, &mut b), 0);
-        best.1 = best.1.min(began.elapsed().as_nanos() as f64);
-    }
+    let best = in_turn(
+        || rust_loop(black_box(&element[20..]), black_box(precision), &mut a),
+        || assert_eq!(library::read_clut(black_box(&element), 4, 3, &mut sizes, &mut b), 0),
+    );
     assert!(a.iter().zip(&b).all(|(x, y)| x.to_bits() == y.to_bits()), "precision {precision}: not the same bits");
     (best.0 / total as f64, best.1 / total as f64)
 }
 
-/// What one would write: no refusals, slice bounds checked.
-fn rust_loop(element: &[u8], entries: &mut [f32]) {
-    let data = &element[20..];
-    if element[16] == 1 {
+/// The best time of each, in ns for one of so many values. Of few a round makes many calls, so that it takes long enough to be timed.
+fn units(rng: &mut values::Rng, precision: usize, count: usize) -> (f64, f64) {
+    let data: Vec<u8> = (0..precision * count).map(|_| rng.next() as u8).collect();
+    let (mut a, mut b, calls) = (vec![0.0f32; count], vec![1.0f32; count], 100_000 / count + 1);
+    let best = in_turn(
+        || (0..calls).for_each(|_| rust_loop(black_box(&data), black_box(precision), black_box(&mut a))),
+        || (0..calls).for_each(|_| assert_eq!(library::read_units(black_box(&data), black_box(precision), count, black_box(&mut b)), 0)),
+    );
+    assert!(a.iter().zip(&b).all(|(x, y)| x.to_bits() == y.to_bits()), "precision {precision}, {count} values: not the same bits");
+    (best.0 / (calls * count) as f64, best.1 / (calls * count) as f64)
+}
+
+/// What one would write for both: for each width a loop that sets entry after entry by one division, as long as there are data. It refuses
+/// nothing.
+fn rust_loop(data: &[u8], precision: usize, entries: &mut [f32]) {
+    if precision == 1 {
         entries.iter_mut().zip(data).for_each(|(entry, &v)| *entry = v as f32 / 255.0);
     } else {
         let pairs = data.chunks_exact(2);

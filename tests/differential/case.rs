@@ -180,6 +180,15 @@ pub fn compare(buffer: &[f32], answers: &[f32]) -> Option<String> {
     None
 }
 
+/// Compares a guarded buffer bit for bit with the entries that it should hold, old ones among them; the guards must stay.
+pub fn compare_bits(buffer: &[f32], entries: &[f32]) -> Option<String> {
+    (0..buffer.len()).find_map(|place| {
+        let at = place as isize - GUARD as isize;
+        let entry = place.checked_sub(GUARD).and_then(|e| entries.get(e)).copied().unwrap_or(sentinel(place));
+        (buffer[place].to_bits() != entry.to_bits()).then(|| format!("entry {at} is {}, not {}", number(buffer[place]), number(entry)))
+    })
+}
+
 /// A float as its bits and its value.
 pub fn number(x: f32) -> String {
     format!("{:08X} ({x:e})", x.to_bits())

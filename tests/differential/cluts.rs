@@ -1,6 +1,6 @@
 //! CLUT elements: reading one as a compared call, and a lookup in the table that was read.
 
-use crate::case::{are_unequal, compare, guarded, number, numbers, sentinel, Case, Sort, GUARD};
+use crate::case::{are_unequal, compare, compare_bits, guarded, numbers, sentinel, Case, Sort, GUARD};
 use crate::grids::padded;
 use crate::library;
 use oracle::{clut, expected};
@@ -55,11 +55,7 @@ impl Case for Clut {
         if sizes != sizes_after(&right) {
             return Some(format!("the sizes are {sizes:?}, not {:?}", sizes_after(&right)));
         }
-        (0..buffer.len()).find_map(|place| {
-            let at = place as isize - GUARD as isize;
-            let entry = place.checked_sub(GUARD).and_then(|e| right.entries.get(e)).copied().unwrap_or(sentinel(place));
-            (buffer[place].to_bits() != entry.to_bits()).then(|| format!("entry {at} is {}, not {}", number(buffer[place]), number(entry)))
-        })
+        compare_bits(&buffer, &right.entries)
     }
 
     fn smaller(&self, take: &mut dyn FnMut(Self) -> bool) {

@@ -3,8 +3,7 @@
 use crate::case::{are_unequal, numbers, Case, Run, Sort};
 use crate::grids::{of_counts, padded, Sizes};
 use crate::library;
-use crate::slabs::any_bits;
-use crate::values::Rng;
+use crate::values::{any_bits, Rng};
 use oracle::expected;
 
 /// A table whose inks are cut one after another, each at its line, until one is left.

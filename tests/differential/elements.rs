@@ -4,7 +4,7 @@ use crate::case::{sentinel, Run};
 use crate::cluts::{Clut, ReadLookup};
 use crate::grids::{equal, grid, laid, Sizes};
 use crate::limits::COUNTS;
-use crate::values::{random_inputs, Rng, ENTRIES};
+use crate::values::{any_bits, random_inputs, Rng};
 use oracle::expected;
 
 pub fn all(run: &mut Run, rng: &mut Rng, long: bool) {
@@ -100,11 +100,6 @@ fn pairs(run: &mut Run, rng: &mut Rng, sizes: &[u8], m: usize) {
     }
 }
 
-/// Old contents of every sort: any bits, patterns of NaN with their payloads among them.
-fn old(rng: &mut Rng, len: usize) -> Vec<f32> {
-    (0..len).map(|_| if rng.one_in(4) { f32::from_bits(rng.pick(&ENTRIES)) } else { rng.bits() }).collect()
-}
-
 /// Bounds of the entries of small elements.
 const SMALL: [u128; 5] = [10, 30, 100, 100, 300];
 
@@ -118,7 +113,7 @@ fn good(rng: &mut Rng, bounds: &[u128], sizes: Sizes) -> Clut {
     element[..16].copy_from_slice(&laid(rng, &used));
     element[16] = precision as u8;
     let longer = if rng.one_in(2) { rng.below(12) } else { 0 };
-    Clut { element, n: used.len(), m, old: old(rng, total + longer) }
+    Clut { element, n: used.len(), m, old: any_bits(rng, total + longer) }
 }
 
 fn damaged(rng: &mut Rng, sizes: Sizes) -> Clut {
@@ -157,7 +152,7 @@ fn random(rng: &mut Rng, sizes: Sizes) -> Clut {
     let length = near(rng, 20 + total * width);
     changed(rng, &mut call, Change::Length(length));
     let room = near(rng, total) + if rng.one_in(3) { rng.below(20) } else { 0 };
-    call.old = old(rng, room);
+    call.old = any_bits(rng, room);
     call
 }
 

@@ -7,12 +7,18 @@ use crate::grids::{equal, padded};
 use crate::lookups::Lookup;
 use crate::values::{before, random_inputs, skipping, Rng};
 use oracle::{definition::product, expected, skips};
-use std::ffi::c_void;
+use std::ffi::{c_char, c_void};
+use std::fs::File;
+use std::os::fd::FromRawFd;
 
 extern "C" {
     fn mmap(address: *mut c_void, len: usize, protection: i32, flags: i32, file: i32, offset: i64) -> *mut c_void;
     fn munmap(address: *mut c_void, len: usize) -> i32;
+    fn memfd_create(name: *const c_char, flags: u32) -> i32;
 }
+
+/// How many entries of a folded buffer are one part.
+pub const PART: usize = 1 << 20;
 
 /// Zeros without memory of their own: read and write, private, anonymous, not reserved (the Linux numbers).
 pub struct Zeros {
@@ -24,6 +30,16 @@ impl Zeros {
     pub fn new(entries: usize) -> Option<Zeros> {
         let start = unsafe { mmap(std::ptr::null_mut(), entries * 4, 1 | 2, 0x2 | 0x20 | 0x4000, -1, 0) };
         (start as isize != -1).then_some(Zeros { start: start.cast(), entries })
+    }
+    /// A buffer that can be written all over: its parts are one and the same memory, but for the first and for those at the end.
+    pub fn folded(entries: usize) -> Option<Zeros> {
+        let zeros = Zeros::new(entries)?;
+        let number = unsafe { memfd_create(b"part\0".as_ptr().cast(), 0) };
+        let file = (number >= 0).then(|| unsafe { File::from_raw_fd(number) })?;
+        file.set_len(4 * PART as u64).ok()?;
+        // Read and write, shared, at exactly this address.
+        let fold = |part| unsafe { mmap(zeros.start.add(part * PART).cast(), 4 * PART, 1 | 2, 0x1 | 0x10, number, 0) as isize != -1 };
+        (1..entries / PART - 1).all(fold).then_some(zeros)
     }
     pub fn entries(&mut self) -> &mut [f32] {
         unsafe { std::slice::from_raw_parts_mut(self.start, self.entries) }

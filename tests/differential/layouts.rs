@@ -1,4 +1,5 @@
-//! Layouts: every size and count, every pair of sizes, unequal sizes, totals at the limit, counts far outside.
+//! Layouts: every size and count, every pair of sizes, unequal sizes, totals at the limit, counts far outside. Of each the library is
+//! asked for its total as well.
 
 use crate::case::{are_unequal, Case, Run, Sort};
 use crate::grids::{equal, grid, laid, Sizes};
@@ -31,6 +32,18 @@ impl Layout {
         let record = expected::record(&self.sizes, self.n, self.m);
         [0, 16, 32].map(|from| std::array::from_fn(|ink| record[from + ink]))
     }
+
+    /// What differs in the total that the library tells of the same layout: it has the layout's number, and on 0 the product.
+    fn total_difference(&self, number: u32) -> Option<String> {
+        let untouched = 0xA5A5_0004_A5A5_0005;
+        let mut total = untouched;
+        let got = library::total(&self.sizes, self.n, self.m, &mut total);
+        if got != number {
+            return Some(format!("the total's number is {got}, not {number}"));
+        }
+        let right = if number == 0 { expected::total(&self.sizes[..self.n], self.m) } else { untouched.into() };
+        (u128::from(total) != right).then(|| format!("the total is {total} ({total:X}), not {right} ({right:X})"))
+    }
 }
 
 impl Case for Layout {
@@ -52,7 +65,10 @@ impl Case for Layout {
         }
         let right = if number == 0 { self.rows() } else { untouched };
         let rows = [strides, filling, scale.map(f32::to_bits)];
-        (rows != right).then(|| format!("\n  the library gives {rows:X?}\n  and not           {right:X?}"))
+        if rows != right {
+            return Some(format!("\n  the library gives {rows:X?}\n  and not           {right:X?}"));
+        }
+        self.total_difference(number)
     }
 
     fn smaller(&self, take: &mut dyn FnMut(Self) -> bool) {
@@ -76,12 +92,12 @@ impl Case for Layout {
     }
 
     fn shown(&self) -> String {
-        format!("layout: sizes {:?}, n {}, m {}", self.sizes, self.n, self.m)
+        format!("layout and its total: sizes {:?}, n {}, m {}", self.sizes, self.n, self.m)
     }
 }
 
 pub fn all(run: &mut Run, rng: &mut Rng) {
-    run.kind("layouts, every g 0 to 255, n 0 to 17, m 0 to 17");
+    run.kind("layouts and their totals, every g 0 to 255, n 0 to 17, m 0 to 17");
     for g in 0..=255 {
         for n in 0..=17 {
             for m in 0..=17 {
@@ -89,11 +105,11 @@ pub fn all(run: &mut Run, rng: &mut Rng) {
             }
         }
     }
-    run.kind("layouts of two inks, every pair of sizes 1 to 255");
+    run.kind("layouts of two inks and their totals, every pair of sizes 1 to 255");
     for (a, b) in (1..=255).flat_map(|a| (1..=255).map(move |b| (a, b))) {
         run.hold(Layout { sizes: laid(rng, &[a, b]), n: 2, m: rng.within(1, 15) });
     }
-    run.kind("layouts with some other sizes or zeros among equal ones, and counts far outside");
+    run.kind("layouts and their totals with some other sizes or zeros among equal ones, and counts far outside");
     for _ in 0..100_000 {
         let mut sizes = [rng.pick(&[1, 2, 3, 4, 9, 17, 84, 138, 255]); 16];
         for _ in 0..rng.below(3) {
@@ -109,7 +125,7 @@ pub fn all(run: &mut Run, rng: &mut Rng) {
 
 /// Random unequal sizes: of small grids, and of any total.
 fn unequal(run: &mut Run, rng: &mut Rng) {
-    run.kind("layouts with random unequal sizes, of small grids and of any total: none is refused with 4");
+    run.kind("layouts and their totals with random unequal sizes, of small grids and of any total: none is refused with 4");
     for i in 0..200_000 {
         let bound = rng.pick(&[100, 4_000, 1_000_000, expected::LARGEST_TOTAL, 8 * expected::LARGEST_TOTAL]);
         let (mut used, m) = grid(rng, bound, Sizes::Unequal);
@@ -122,7 +138,7 @@ fn unequal(run: &mut Run, rng: &mut Rng) {
 
 /// Sizes whose product with m is as near to 4,294,967,295 as a last size allows, and one line more; then those of `LIMITS`.
 fn limit(run: &mut Run, rng: &mut Rng) {
-    run.kind("layouts with unequal sizes and totals at 4,294,967,295 and above");
+    run.kind("layouts and their totals with unequal sizes and totals at 4,294,967,295 and above");
     let mut list: Vec<(Vec<u8>, usize)> = LIMITS.iter().map(|&(used, m)| (used.to_vec(), m)).collect();
     for _ in 0..200_000 {
         let (n, m) = (rng.within(4, 15), rng.within(1, 15));

@@ -4,6 +4,7 @@
 #[link(name = "tenahvar", kind = "static")]
 extern "C" {
     fn tenahvar_layout(sizes: *const u8, n: usize, m: usize, strides: *mut u32, filling: *mut u32, scale: *mut f32) -> u32;
+    fn tenahvar_total(sizes: *const u8, n: usize, m: usize, total: *mut u64) -> u32;
     fn tenahvar_lookup(
         sizes: *const u8, n: usize, m: usize, table: *const f32, table_len: usize, inputs: *const f32, inputs_len: usize,
         answer: *mut f32, answer_len: usize,
@@ -14,6 +15,9 @@ extern "C" {
     ) -> u32;
     fn tenahvar_read_clut(
         element: *const u8, element_len: usize, n: usize, m: usize, sizes: *mut u8, entries: *mut f32, entries_len: usize,
+    ) -> u32;
+    fn tenahvar_read_units(
+        data: *const u8, data_len: usize, precision: usize, count: usize, entries: *mut f32, entries_len: usize,
     ) -> u32;
     fn tenahvar_cut_slab(
         sizes: *const u8, n: usize, m: usize, table: *const f32, table_len: usize, j: usize, k: usize, slab: *mut f32,
@@ -40,6 +44,10 @@ pub fn layout(
     unsafe { tenahvar_layout(sizes.as_ptr(), n, m, strides.as_mut_ptr(), filling.as_mut_ptr(), scale.as_mut_ptr()) }
 }
 
+pub fn total(sizes: &[u8; 16], n: usize, m: usize, total: &mut u64) -> u32 {
+    unsafe { tenahvar_total(sizes.as_ptr(), n, m, total) }
+}
+
 #[inline]
 pub fn lookup(sizes: &[u8; 16], n: usize, m: usize, table: &[f32], inputs: &[f32], answer: &mut [f32]) -> u32 {
     unsafe {
@@ -61,6 +69,10 @@ pub fn read_clut(element: &[u8], n: usize, m: usize, sizes: &mut [u8; 16], entri
     unsafe {
         tenahvar_read_clut(element.as_ptr(), element.len(), n, m, sizes.as_mut_ptr(), entries.as_mut_ptr(), entries.len())
     }
+}
+
+pub fn read_units(data: &[u8], precision: usize, count: usize, entries: &mut [f32]) -> u32 {
+    unsafe { tenahvar_read_units(data.as_ptr(), data.len(), precision, count, entries.as_mut_ptr(), entries.len()) }
 }
 
 pub fn cut_slab(sizes: &[u8; 16], n: usize, m: usize, table: &[f32], j: usize, k: usize, slab: &mut [f32]) -> u32 {

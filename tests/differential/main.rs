@@ -14,6 +14,7 @@ mod grids;
 mod huge;
 mod huge_cluts;
 mod huge_slabs;
+mod huge_units;
 mod layouts;
 mod library;
 mod limits;
@@ -25,18 +26,24 @@ mod skipped;
 mod slabs;
 mod strides;
 mod unequal;
+mod units;
 mod values;
+
+/// Says what will be compared, and what the oracle is not asked.
+fn announce(count: u64, seed: u64, long: bool) {
+    println!("differential: {count} random lookups, seed {seed}{}", if long { ", long" } else { "" });
+    println!("An input of -0.0 is handed to the Rust text as +0.0: Rust leaves the sign of its clip open.");
+    if values::SIGNALLING_LEFT_OUT {
+        println!("Signalling NaN inputs are left out on Arm: the compiled Rust clips them to 1 there, document 01 to +0.0.");
+    }
+}
 
 fn main() {
     let words: Vec<String> = std::env::args().skip(1).collect();
     let number = |place: usize, default| words.get(place).map_or(default, |w| w.parse().expect("a number"));
     let (count, seed) = (number(0, 200_000), number(1, 1));
     let long = words.get(2).is_some_and(|w| w == "long");
-    println!("differential: {count} random lookups, seed {seed}{}", if long { ", long" } else { "" });
-    println!("An input of -0.0 is handed to the Rust text as +0.0: Rust leaves the sign of its clip open.");
-    if values::SIGNALLING_LEFT_OUT {
-        println!("Signalling NaN inputs are left out on Arm: the compiled Rust clips them to 1 there, document 01 to +0.0.");
-    }
+    announce(count, seed, long);
     let (run, rng) = (&mut case::Run::new(), &mut values::Rng(seed));
     skipped::condition();
     skipped::codes();
@@ -65,5 +72,7 @@ fn main() {
     down::all(run, rng, long);
     huge_slabs::all(run, rng, long);
     lines::all(run, rng, long);
+    units::all(run, rng, long);
+    huge_units::all(run, rng, long);
     run.end();
 }

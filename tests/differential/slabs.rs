@@ -1,10 +1,10 @@
 //! Slabs: a cut as a compared call, the cuts that are compared, and cuts one after another.
 
-use crate::case::{are_unequal, guarded, number, numbers, sentinel, Case, Run, Sort, GUARD};
+use crate::case::{are_unequal, compare_bits, guarded, numbers, sentinel, Case, Run, Sort, GUARD};
 use crate::grids::{equal, grid, laid, orders, padded, Sizes};
 use crate::library;
 use crate::limits::COUNTS;
-use crate::values::{Rng, ENTRIES};
+use crate::values::{any_bits, Rng};
 use oracle::{expected, slab};
 use std::borrow::Cow;
 
@@ -47,11 +47,7 @@ impl Case for Slab<'_> {
         if got != right.number {
             return Some(format!("the number is {got}, not {}", right.number));
         }
-        (0..buffer.len()).find_map(|place| {
-            let at = place as isize - GUARD as isize;
-            let entry = place.checked_sub(GUARD).and_then(|e| right.slab.get(e)).copied().unwrap_or(sentinel(place));
-            (buffer[place].to_bits() != entry.to_bits()).then(|| format!("entry {at} is {}, not {}", number(buffer[place]), number(entry)))
-        })
+        compare_bits(&buffer, &right.slab)
     }
 
     fn smaller(&self, take: &mut dyn FnMut(Self) -> bool) {
@@ -86,11 +82,6 @@ impl Case for Slab<'_> {
         let Slab { sizes, n, m, table, j, k, old } = self;
         format!("cut_slab: sizes {sizes:?}, n {n}, m {m}, j {j}, k {k}\n  table of {}\n  buffer of {}", numbers(table), numbers(old))
     }
-}
-
-/// Any bits, patterns of NaN with their payloads among them.
-pub fn any_bits(rng: &mut Rng, len: usize) -> Vec<f32> {
-    (0..len).map(|_| if rng.one_in(4) { f32::from_bits(rng.pick(&ENTRIES)) } else { rng.bits() }).collect()
 }
 
 pub fn all(run: &mut Run, rng: &mut Rng, long: bool) {

@@ -142,6 +142,11 @@ pub fn fill_table(rng: &mut Rng, table: &mut [f32]) {
     }
 }
 
+/// Any bits, patterns of NaN with their payloads among them.
+pub fn any_bits(rng: &mut Rng, len: usize) -> Vec<f32> {
+    (0..len).map(|_| if rng.one_in(4) { f32::from_bits(rng.pick(&ENTRIES)) } else { rng.bits() }).collect()
+}
+
 /// Any finite float, by its bits.
 fn finite(rng: &mut Rng) -> f32 {
     loop {

@@ -27,7 +27,7 @@ static const uint8_t *sizes_of(uint8_t g, uint8_t second) {
     return sizes;
 }
 
-/* What all three calls that take a layout refuse first. */
+/* What all four calls that take a layout refuse first. */
 static const struct { uint8_t g, second; size_t n, m; uint32_t number; } layouts[] = {
     {2, 2, 0, 0, TENAHVAR_INPUT_INKS},      {2, 2, 16, 3, TENAHVAR_INPUT_INKS},   {2, 2, ((size_t)1 << 32) + 3, 3, TENAHVAR_INPUT_INKS},
     {0, 0, 3, 0, TENAHVAR_OUTPUT_INKS},     {2, 2, 3, 16, TENAHVAR_OUTPUT_INKS},  {2, 2, 3, ((size_t)1 << 32) + 3, TENAHVAR_OUTPUT_INKS},
@@ -40,6 +40,7 @@ static void layout_calls(void) {
     uint32_t strides[16], filling[16], untouched[16];
     float scale[16], one;
     size_t offset = 99;
+    uint64_t total = 99;
     memset(untouched, 0xA5, sizeof untouched);
     memset(strides, 0xA5, sizeof strides);
     memset(filling, 0xA5, sizeof filling);
@@ -49,12 +50,13 @@ static void layout_calls(void) {
         const uint8_t *sizes = sizes_of(layouts[i].g, layouts[i].second);
         size_t n = layouts[i].n, m = layouts[i].m;
         EXPECT(tenahvar_layout(sizes, n, m, strides, filling, scale) == layouts[i].number);
+        EXPECT(tenahvar_total(sizes, n, m, &total) == layouts[i].number);
         EXPECT(tenahvar_lookup(sizes, n, m, &one, 0, &one, 0, &one, 0) == layouts[i].number);
         EXPECT(tenahvar_node(sizes, n, m, &one, 0, &offset, 0, &offset) == layouts[i].number);
     }
     EXPECT(memcmp(strides, untouched, sizeof strides) == 0);
     EXPECT(memcmp(filling, untouched, sizeof filling) == 0);
-    EXPECT(all(scale, 16, UNTOUCHED) && all(&one, 1, UNTOUCHED) && offset == 99);
+    EXPECT(all(scale, 16, UNTOUCHED) && all(&one, 1, UNTOUCHED) && offset == 99 && total == 99);
 
     EXPECT(tenahvar_layout(sizes_of(17, 17), 4, 3, strides, filling, scale) == TENAHVAR_DONE);
     EXPECT(strides[0] == 4913 && strides[1] == 289 && strides[2] == 17 && strides[3] == 1 && strides[4] == 1 && strides[15] == 1);
@@ -81,6 +83,24 @@ static void unequal_layouts(void) {
     EXPECT(tenahvar_layout(large, 5, 1, strides, filling, scale) == TENAHVAR_DONE && filling[0] == 33818640);
     EXPECT(tenahvar_layout(larger, 5, 1, strides, filling, scale) == TENAHVAR_LARGE_TOTAL);
     EXPECT(tenahvar_layout(large, 5, 2, strides, filling, scale) == TENAHVAR_LARGE_TOTAL);
+}
+
+/* The total of an accepted layout; 0 of another. */
+static uint64_t total_of(const uint8_t *sizes, size_t n, size_t m) {
+    uint64_t total = ~(uint64_t)0;
+    return tenahvar_total(sizes, n, m, &total) == TENAHVAR_DONE ? total : 0;
+}
+
+/* The product of the n sizes and m, up to the largest that is accepted; 2^32 is the next one above it. Sizes past n do not count. */
+static void totals(void) {
+    const uint8_t four[16] = {5, 1, 4, 2, 0, 255, 9}, large[16] = {127, 113, 215, 232, 6}, word[16] = {16, 128, 128, 128, 128};
+    EXPECT(total_of(sizes_of(1, 0), 1, 1) == 1 && total_of(sizes_of(1, 1), 15, 15) == 15);
+    EXPECT(total_of(sizes_of(2, 0), 1, 1) == 2 && total_of(sizes_of(2, 3), 2, 4) == 24 && total_of(sizes_of(3, 2), 2, 15) == 90);
+    EXPECT(total_of(four, 4, 3) == 120 && total_of(four, 3, 3) == 60 && total_of(four, 5, 3) == 0);
+    EXPECT(total_of(sizes_of(17, 17), 4, 3) == 250563 && total_of(sizes_of(255, 255), 1, 15) == 3825);
+    EXPECT(total_of(sizes_of(4, 4), 15, 3) == 3221225472u && total_of(sizes_of(255, 255), 4, 1) == 4228250625u);
+    EXPECT(total_of(large, 5, 1) == 4294967280u && total_of(large, 5, 2) == 0 && total_of(word, 5, 1) == 0);
+    EXPECT(total_of(word, 4, 8) == 268435456 && total_of(word, 4, 15) == 503316480);
 }
 
 /* Entry e of a table is e, a linear function of the inks: a colour is the sum of p times the stride. A node stands at its number. */
@@ -181,9 +201,35 @@ static void cube_calls(cube_method *method, float colour) {
     EXPECT(method(low, high, w, 2, 3, cube, 24, answer, 4) == TENAHVAR_DONE && all(answer, 3, colour) && all(answer + 3, 1, UNTOUCHED));
 }
 
+/* Each number has a text of its own that tells its fault; 4 and all that no call gives have one and the same. */
+static void texts(void) {
+    static const struct { uint32_t number; const char *fault; } faults[] = {
+        {TENAHVAR_DONE, "done"},              {TENAHVAR_INPUT_INKS, "input inks"},      {TENAHVAR_OUTPUT_INKS, "output inks"},
+        {TENAHVAR_ZERO_SIZE, "size"},         {TENAHVAR_LARGE_TOTAL, "4,294,967,295"},  {TENAHVAR_SHORT_TABLE, "the table is shorter"},
+        {TENAHVAR_INPUT_COUNT, "coordinates"}, {TENAHVAR_SHORT_ANSWER, "buffer"},       {TENAHVAR_FOREIGN_RECORD, "record"},
+        {TENAHVAR_OUTSIDE_GRID, "node"},      {TENAHVAR_NO_SUCH_INK, "the ink to cut"}, {TENAHVAR_NO_SUCH_LINE, "the line to cut"},
+        {TENAHVAR_SHORT_ELEMENT, "20 bytes"}, {TENAHVAR_PRECISION, "precision"},        {TENAHVAR_SHORT_DATA, "data"},
+    };
+    const uint32_t none[] = {16, 255, 256, 65536 + 14, 0x7FFFFFFF, 0xFFFFFFFF};
+    for (size_t i = 0; i < sizeof faults / sizeof *faults; i++)
+        EXPECT(strstr(tenahvar_refusal_text(faults[i].number), faults[i].fault) != NULL);
+    for (uint32_t number = 1; number < 16; number++)
+        for (uint32_t other = 0; other < number; other++)
+            EXPECT(strcmp(tenahvar_refusal_text(number), tenahvar_refusal_text(other)) != 0);
+    for (size_t i = 0; i < sizeof none / sizeof *none; i++) EXPECT(strcmp(tenahvar_refusal_text(none[i]), tenahvar_refusal_text(4)) == 0);
+}
+
+/* The version as text is its three numbers. */
+static void version(void) {
+    char text[64];
+    snprintf(text, sizeof text, "%d.%d.%d", TENAHVAR_VERSION_MAJOR, TENAHVAR_VERSION_MINOR, TENAHVAR_VERSION_PATCH);
+    EXPECT(strcmp(text, TENAHVAR_VERSION) == 0);
+}
+
 int main(void) {
     layout_calls();
     unequal_layouts();
+    totals();
     lookup_calls();
     unequal_lookups();
     case_12();
@@ -192,6 +238,8 @@ int main(void) {
     cube_calls(tenahvar_pyramidal, 0.25f);
     cube_calls(tenahvar_prismatic, 0.125f);
     cube_calls(tenahvar_trilinear, 0.09375f);
+    texts();
+    version();
     printf("calls: %d checks, %d failed\n", checks, failed);
     return failed != 0;
 }

@@ -4,7 +4,8 @@
 //!
 //! `rust_lookup`, `layout`, `weights`, `pyramidal`, `prismatic` and `trilinear` give the crate's answers for accepted calls. `lookup` gives
 //! what the library owes: the crate's answers, and where demand 2 leaves those out, or sizes are unequal, the answers of `definition`.
-//! The refusals are not the crate's: `expected` has them, in the words of document 01's table; `clut` has document 02's CLUT elements and `slab` its slabs.
+//! The refusals are not the crate's: `expected` has them, in the words of document 01's table; `clut` has document 02's CLUT elements,
+//! `units` the values in them and `slab` its slabs.
 
 mod answers;
 pub mod clut;
@@ -15,6 +16,7 @@ pub mod expected;
 #[macro_use]
 mod sizes;
 pub mod slab;
+pub mod units;
 mod weights;
 
 pub use answers::{layout, rust_blend, rust_lookup, Lut, Strides};

@@ -16,6 +16,9 @@ pub const ELEMENT: usize = 4_096;
 /// The longest buffer that an element is read into.
 pub const BUFFER: usize = 4_000;
 
+/// The most bytes of values, and the longest buffer that they are read into.
+pub const UNITS: usize = 1_024;
+
 /// The longest buffer that a slab is cut into.
 pub const SLAB: usize = 1_024;
 
@@ -119,12 +122,12 @@ impl Asked {
 pub struct List {
     pub stdin: String,
     pub stdout: String,
-    pub counts: [usize; 12],
+    pub counts: [usize; 13],
     pub entries: usize,
     /// How many lookups demand 2 excepts (E4), and in how many of them the crate's answers are others.
     pub excepted: [usize; 2],
     /// How many cases of each kind have a record with unequal sizes.
-    pub unequal: [usize; 12],
+    pub unequal: [usize; 13],
 }
 
 impl List {
@@ -279,5 +282,15 @@ impl List {
             buffer[..slab.len()].copy_from_slice(&slab);
         }
         self.answers(Some(number), buffer.iter().map(|e| e.to_bits()));
+    }
+
+    /// 12: values without a header, into a buffer with old contents.
+    pub fn units(&mut self, precision: u32, count: u32, old: &Table, data: &[u8]) {
+        let bytes: Vec<u32> = data.iter().map(|&byte| byte as u32).collect();
+        self.asks(12, &[&[precision, count], &old.text(), &[bytes.len() as u32], &bytes]);
+        let read = oracle::units::read(data, precision as usize, count as usize, &old.entries());
+        assert!(bytes.len().max(read.entries.len()) <= UNITS);
+        self.entries += read.entries.len();
+        self.answers(Some(read.number), read.entries.iter().map(|e| plain(e.to_bits())));
     }
 }

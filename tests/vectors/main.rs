@@ -10,6 +10,7 @@ mod lookups;
 mod others;
 mod slabs;
 mod unequal;
+mod units;
 #[allow(dead_code)]
 #[path = "../differential/values.rs"]
 mod values;
@@ -31,12 +32,16 @@ fn main() {
     others::cubes(list, rng);
     cluts::all(list, rng);
     slabs::all(list, rng);
+    units::all(list, rng);
     list.stdin.push_str("0\n");
     std::fs::write(format!("{folder}/stdin"), &list.stdin).expect("stdin is written");
     std::fs::write(format!("{folder}/stdout"), &list.stdout).expect("stdout is written");
     assert!(list.stdin.len() <= list::TEXT, "the list is longer than replay's room for it");
-    let names = ["", "lookups", "layouts", "nodes", "weights", "sizes' weights", "pyramids", "prisms", "trilinears", "constant's entries", "CLUTs", "slabs"];
-    let told: Vec<String> = (1..12).map(|k| format!("{} {}", list.counts[k], names[k])).collect();
+    let names = [
+        "", "lookups", "layouts", "nodes", "weights", "sizes' weights", "pyramids", "prisms", "trilinears", "constant's entries", "CLUTs",
+        "slabs", "units",
+    ];
+    let told: Vec<String> = (1..names.len()).map(|k| format!("{} {}", list.counts[k], names[k])).collect();
     println!(
         "vectors: {} cases ({}); stdin {} bytes, stdout {} bytes, {} table entries in all",
         list.counts.iter().sum::<usize>(), told.join(", "), list.stdin.len(), list.stdout.len(), list.entries

@@ -8,7 +8,7 @@ ghost use Prim.Native.Nat.{_≤_};
 ghost use lib.ListN.{length, take};
 
 // The count, or the length of a buffer where that is less.
-fn fitting(count: usize, buffer: &[u8]) -> usize
+pub(crate) fn fitting(count: usize, buffer: &[u8]) -> usize
     ensures { λ r. ⌜ (r ≤ length (now (buffer .entry))) × (r ≡ length (take r (now (buffer .entry)))) ⌝ }
 {
     if count < buffer.len() {

@@ -5,6 +5,7 @@ mod floats;
 mod print;
 mod record;
 mod slabs;
+mod units;
 mod words;
 
 use libc::STDIN_FILENO;
@@ -37,17 +38,20 @@ fn case(kind: u32, text: &[u8], from: usize, table: &mut [f32]) -> usize {
     if kind == 11 {
         return slabs::slab(text, from, table);
     }
+    if kind == 12 {
+        return units::units(text, from, table);
+    }
     calls::cube(kind, text, from, table)
 }
 
-// The cases up to a kind that is 0 or above 11. Each has a byte at least, so there are no more than bytes.
+// The cases up to a kind that is 0 or above 12. Each has a byte at least, so there are no more than bytes.
 fn cases(text: &[u8], table: &mut [f32]) {
     let mut at: usize = 0;
     let mut left = text.len();
     while left > 0 {
         let w = words::word(text, at);
         let kind = w.value;
-        if kind == 0 || kind > 11 {
+        if kind == 0 || kind > 12 {
             break;
         }
         at = case(kind, text, w.next, table);
