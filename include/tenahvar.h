@@ -38,7 +38,7 @@ extern "C" {
 #define TENAHVAR_LARGE_TOTAL 5     /* the total is above 4,294,967,295 */
 #define TENAHVAR_SHORT_TABLE 6     /* the table is shorter than the total */
 #define TENAHVAR_INPUT_COUNT 7     /* the number of inputs, or of node coordinates, is not n */
-#define TENAHVAR_SHORT_ANSWER 8    /* a buffer to be written is too short: shorter than m, or for a CLUT or a slab than its total */
+#define TENAHVAR_SHORT_ANSWER 8    /* a buffer to be written is shorter than m, than the total of a CLUT or a slab, or than the count of values */
 #define TENAHVAR_FOREIGN_RECORD 9  /* a layout record is not one that an accepted layout gives: no function below takes a record */
 #define TENAHVAR_OUTSIDE_GRID 10   /* a cell's node is not below g, or a node coordinate not below its own ink's size */
 #define TENAHVAR_NO_SUCH_INK 11    /* the ink to cut is not one of 1..n, or n is 1 */
