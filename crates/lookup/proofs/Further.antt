@@ -11,7 +11,7 @@ use Rattle.lists.specs.Buffer.{written}
 use Rattle.lists.proofs.Buffer.{written-at, written-same, written-over}
 use Rattle.cell.specs.declared.Cell.{Cell}
 use Rattle.lookup.specs.Lookup.{Grid, part, lookup}
-use Rattle.lookup.specs.Places.{within, reach, answer, above, cellsAt, placedInk, firstInks, furtherInks}
+use Rattle.lookup.specs.Places.{within, reach, answer, above, cellsAt, Inside, placedInk, firstInks, furtherInks}
 use Rattle.lookup.proofs.Inks.{from-drop, drop-within}
 
 -- ---- one ink more, by the fold of the answers of two parts
@@ -35,18 +35,39 @@ module _ (leaf : ℕ → List Float → Float) (part : List Float) (a b : ℕ) (
       upper-at o h = ap (λ (l : List Float). getD l o nan) above ∙ written-at _ m old-upper o nan h room-upper ∙ ap (leaf o) (from-drop part b)
 
 -- the one ink
-pub above-first : (three : List Float → Float) (low high : List ℕ) (w : List Float) (k : ℕ) (part : List Float) → k ≡ 1
+above-first : (three : List Float → Float) (low high : List ℕ) (w : List Float) (k : ℕ) (part : List Float) → k ≡ 1
     → lerp (three (drop (getD low (k - 1) 0) part)) (three (drop (getD high (k - 1) 0) part)) (getD w (k - 1) nan) ≡ above three (cellsAt low high w k) part
 above-first three low high w k part one = rw one refl
 
 -- the last of k inks
-pub above-last : (three : List Float → Float) (low high : List ℕ) (w : List Float) (k : ℕ) (part : List Float) → 1 ≤ k
+above-last : (three : List Float → Float) (low high : List ℕ) (w : List Float) (k : ℕ) (part : List Float) → 1 ≤ k
     → lerp (above three (cellsAt low high w (k - 1)) (drop (getD low (k - 1) 0) part)) (above three (cellsAt low high w (k - 1)) (drop (getD high (k - 1) 0) part)) (getD w (k - 1) nan)
     ≡ above three (cellsAt low high w k) part
 above-last three low high w k part some = let last : suc (k - 1) ≡ k = omega arith in ap (λ (j : ℕ). above three (cellsAt low high w j) part) last
 
-pub reach-last : (low high : List ℕ) (w : List Float) (k : ℕ) → 1 ≤ k → reach (cellsAt low high w k) ≡ max (getD low (k - 1) 0) (getD high (k - 1) 0) + reach (cellsAt low high w (k - 1))
+module _ (leaf : ℕ → List Float → Float) (low high : List ℕ) (w : List Float) (k : ℕ) (part : List Float) (m : ℕ) (old now : List Float) where
+  pub first-done : k ≡ 1 → now ≡ written (λ o. lerp (leaf o (drop (getD low (k - 1) 0) part)) (leaf o (drop (getD high (k - 1) 0) part)) (getD w (k - 1) nan)) m old
+      → now ≡ written (λ o. above (leaf o) (cellsAt low high w k) part) m old
+  first-done one is = is ∙ written-same _ _ m old (λ o h. above-first (leaf o) low high w k part one)
+
+  pub last-done : 1 ≤ k
+      → now ≡ written (λ o. lerp (above (leaf o) (cellsAt low high w (k - 1)) (drop (getD low (k - 1) 0) part)) (above (leaf o) (cellsAt low high w (k - 1)) (drop (getD high (k - 1) 0) part)) (getD w (k - 1) nan)) m old
+      → now ≡ written (λ o. above (leaf o) (cellsAt low high w k) part) m old
+  last-done some is = is ∙ written-same _ _ m old (λ o h. above-last (leaf o) low high w k part some)
+
+reach-last : (low high : List ℕ) (w : List Float) (k : ℕ) → 1 ≤ k → reach (cellsAt low high w k) ≡ max (getD low (k - 1) 0) (getD high (k - 1) 0) + reach (cellsAt low high w (k - 1))
 reach-last low high w k some = let last : k ≡ suc (k - 1) = omega arith in ap (λ (j : ℕ). reach (cellsAt low high w j)) last
+
+-- the last of k inks leads no further than all of them
+module _ (low high : List ℕ) (w : List Float) (k m : ℕ) (some : 1 ≤ k) where
+  pub last-both : max (getD low (k - 1) 0) (getD high (k - 1) 0) + m ≤ reach (cellsAt low high w k) + m
+  last-both = omega (arith, reach-last low high w k some)
+
+  pub last-low : getD low (k - 1) 0 + (reach (cellsAt low high w (k - 1)) + m) ≤ reach (cellsAt low high w k) + m
+  last-low = omega (arith, reach-last low high w k some)
+
+  pub last-high : getD high (k - 1) 0 + (reach (cellsAt low high w (k - 1)) + m) ≤ reach (cellsAt low high w k) + m
+  last-high = omega (arith, reach-last low high w k some)
 
 -- ---- the answer
 
@@ -91,8 +112,17 @@ module _ (filling sizes : List ℕ) (xs : List Float) (k : ℕ) (one : k ≡ 1) 
   one-further : furtherInks filling sizes xs k ≡ h ∷ []
   one-further = ap (furtherInks filling sizes xs) one ∙ ap (λ (c : Cell). c ∷ []) (sym is)
 
-  pub reach-fourth : reach (furtherInks filling sizes xs k) ≡ max (h .x) (h .«x_n»)
-  reach-fourth = ap reach one-further ∙ add-zero _
+  pub reach-fourth : (p : List ℕ) (m n : ℕ) → Inside p (reach (furtherInks filling sizes xs k) + m) n → Inside p (max (h .x) (h .«x_n») + m) n
+  reach-fourth p m n inside j = omega (arith, inside j, ap reach one-further ∙ add-zero _)
 
-  pub above-fourth : (three : List Float → Float) (part : List Float) → lerp (three (drop (h .x) part)) (three (drop (h .«x_n») part)) (h .w) ≡ above three (furtherInks filling sizes xs k) part
-  above-fourth three part = ap (λ (hs : List Cell). above three hs part) (sym one-further)
+  pub fourth-done : (leaf : ℕ → List Float → Float) (part : List Float) (m : ℕ) (old now : List Float)
+      → now ≡ written (λ o. lerp (leaf o (drop (h .x) part)) (leaf o (drop (h .«x_n») part)) (h .w)) m old → now ≡ written (λ o. above (leaf o) (furtherInks filling sizes xs k) part) m old
+  fourth-done leaf part m old now is = is ∙ written-same _ _ m old (λ o l. ap (λ (hs : List Cell). above (leaf o) hs part) (sym one-further))
+
+-- inks that stand in their places
+module _ (cs hs : List Cell) (same : cs ≡ hs) where
+  pub reach-same : (p : List ℕ) (m n : ℕ) → Inside p (reach hs + m) n → Inside p (reach cs + m) n
+  reach-same p m n inside j = omega (arith, inside j, ap reach same)
+
+  pub same-done : (leaf : ℕ → List Float → Float) (part : List Float) (m : ℕ) (old now : List Float) → now ≡ written (λ o. above (leaf o) cs part) m old → now ≡ written (λ o. above (leaf o) hs part) m old
+  same-done leaf part m old now is = is ∙ ap (λ (l : List Cell). written (λ o. above (leaf o) l part) m old) same

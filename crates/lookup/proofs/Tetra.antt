@@ -1,17 +1,20 @@
 -- A plan's entries are those of the tetrahedron, and lie within reach. Assumes nothing.
-use Prim.Native.Nat.{ℕ, zero, suc, _+_, _≤_, max}
+use Prim.Native.Nat.{ℕ, zero, suc, _+_, _≤_, _<_, max}
 use mathlib.Core.Path.{_≡_, refl, ap, fun-ext, _∙_}
 use mathlib.Core.List.{List, [], _∷_}
 use mathlib.Core.Bool.{Bool, true, false, not, cond}
 use native.Mathlib.Omega.{arith}
 use lib.Ieee.{Float, nan, le}
 use lib.ListN.{getD}
-use Rattle.binary32.specs.Blend.{six}
+use mir.Syntax.{w64}
+use mir.Val.{Fits}
+use Rattle.binary32.specs.Blend.{six, mlaf, rise}
 use Rattle.binary32.specs.Range.{Below}
 use Rattle.cell.specs.declared.Cell.{Cell}
 use Rattle.lookup.specs.Lookup.{node, lookup}
 use Rattle.lookup.specs.Places.{within, reach, corner, planBy, planOf, planned, Plans}
 use Rattle.lookup.proofs.Weights.{le-through, le-fails}
+use Rattle.lookup.proofs.Room.{far, within-far}
 
 -- ---- the code's choices are a cell's nodes
 
@@ -54,13 +57,17 @@ module _ (cx cy cz : Cell) (y1 z1 x2 z2 x3 y3 : ℕ) where
 
 -- ---- within reach
 
-module _ (cx cy cz : Cell) where
-  node-reach : (c : Cell) (b : Bool) → node c b ≤ max (c .x) (c .«x_n»)
-  node-reach c true = omega arith
-  node-reach c false = omega arith
+-- the code's sums fit
+module _ (cx cy cz : Cell) (few : reach (cz ∷ cy ∷ cx ∷ []) < 18446744073709551616) (x y : ℕ) (h : x ≤ far cx) (k : y ≤ far cy) where
+  pub two-fit : Fits w64 (x + y)
+  two-fit = omega arith
 
+  pub three-fit : (z : ℕ) → z ≤ far cz → Fits w64 (x + y + z)
+  three-fit z l = omega arith
+
+module _ (cx cy cz : Cell) where
   corner-reach : (i j k : Bool) → corner cx cy cz i j k ≤ reach (cz ∷ cy ∷ cx ∷ [])
-  corner-reach i j k = omega (arith, node-reach cx i, node-reach cy j, node-reach cz k)
+  corner-reach i j k = omega (arith, within-far cx i, within-far cy j, within-far cz k)
 
   plan-reach : (xy yz xz : Bool) (k : ℕ) → getD (planBy (corner cx cy cz) xy yz xz) k 0 ≤ reach (cz ∷ cy ∷ cx ∷ [])
   plan-reach xy yz xz zero = corner-reach false false false
@@ -71,6 +78,19 @@ module _ (cx cy cz : Cell) where
   plan-reach xy yz xz (suc (suc (suc (suc (suc zero))))) = corner-reach xz yz true
   plan-reach xy yz xz (suc (suc (suc (suc (suc (suc zero)))))) = corner-reach xz yz false
   plan-reach xy yz xz (suc (suc (suc (suc (suc (suc (suc k))))))) = omega arith
+
+-- ---- what the code adds up
+
+module _ (p : List ℕ) (r : List Float) (o : ℕ) (part : List Float) where
+  abbrev entry : ℕ → Float
+  entry k = getD part (getD p k 0 + o) nan
+
+  -- the sums after one term, two and three
+  pub three-terms : (s t u : Float) → s ≡ mlaf (entry 0) (rise (entry 2) (entry 1)) (getD r 0 nan) → t ≡ mlaf s (rise (entry 4) (entry 3)) (getD r 1 nan)
+      → u ≡ mlaf t (rise (entry 6) (entry 5)) (getD r 2 nan) → u ≡ planned p r o part
+  three-terms s t u first second third =
+      third
+      ∙ ap (λ (v : Float). mlaf v (rise (entry 6) (entry 5)) (getD r 2 nan)) (second ∙ ap (λ (v : Float). mlaf v (rise (entry 4) (entry 3)) (getD r 1 nan)) first)
 
 -- ---- the six cases, where the tests agree
 

@@ -1,12 +1,15 @@
 -- A loop that sets one entry of a buffer a turn. Assumes nothing.
-use Prim.Native.Nat.{ℕ, _+_, _≤_, _<_}
-use mathlib.Core.Path.{_≡_, refl, ap, ap₂, _∙_}
+use Prim.Native.Nat.{ℕ, _+_, _-_, _*_, _≤_, _<_}
+use mathlib.Core.Path.{_≡_, refl, sym, ap, ap₂, subst, _∙_}
 use mathlib.Core.List.{List}
 use native.Mathlib.Omega.{arith}
 use lib.Ieee.{Float, nan}
 use lib.ListN.{length, getD, set, length-set}
+use mir.Syntax.{w64}
+use mir.Val.{Fits}
 use Rattle.lists.specs.Buffer.{written}
 use Rattle.lists.proofs.Buffer.{length-written, written-next, written-past}
+use Rattle.lookup.proofs.Room.{Room}
 
 -- after o of m turns the buffer, which was `old`, is `now`
 pub record Turned (f : ℕ → Float) (m : ℕ) (old now : List Float) (o : ℕ) : Type 0 where
@@ -14,12 +17,22 @@ pub record Turned (f : ℕ → Float) (m : ℕ) (old now : List Float) (o : ℕ)
   pub room : length now ≡ length old
   pub set-to : now ≡ written f o old
 
+-- the turn at place o of a buffer of n entries: the place is there, the next one fits, and one turn fewer is left
+pub record Turn (m o n : ℕ) : Type 0 where
+  pub bytes : Fits w64 (o * 4)
+  pub inside : o < n
+  pub next : Fits w64 (o + 1)
+  pub fewer : m - (o + 1) < m - o
+
 module _ (f : ℕ → Float) (m : ℕ) (old : List Float) where
   pub turned-none : Turned f m old old 0
   unfolding written
   turned-none = record { most = omega arith; room = refl; set-to = refl }
 
   module _ (now : List Float) (o : ℕ) (turned : Turned f m old now o) where
+    pub a-turn : o < m → m ≤ length old → Room (length old) → Turn m o (length now)
+    a-turn less enough room = record { bytes = omega arith; inside = omega arith; next = omega arith; fewer = omega arith }
+
     pub turned-more : o < m → (v : Float) → v ≡ f o → Turned f m old (set now o v) (o + 1)
     turned-more less v is =
         record {
@@ -38,3 +51,6 @@ module _ (f : ℕ → Float) (m : ℕ) (old : List Float) where
 -- a buffer that was written is as long as before
 pub same-room : (f : ℕ → Float) (m : ℕ) (old now : List Float) → now ≡ written f m old → length now ≡ length old
 same-room f m old now e = ap length e ∙ length-written f m old
+
+pub room-kept : (f : ℕ → Float) (m : ℕ) (old now : List Float) → now ≡ written f m old → {k : ℕ} → k ≤ length old → k ≤ length now
+room-kept f m old now e {k} h = subst (λ (n : ℕ). k ≤ n) (sym (same-room f m old now e)) h

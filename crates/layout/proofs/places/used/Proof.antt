@@ -3,11 +3,12 @@
 use Prim.Native.Nat.{ℕ, _-_, _*_, _≤_, _<_}
 use mathlib.Core.Path.{_≡_, sym, ap, _∙_, subst}
 use mathlib.Core.List.{List}
-use native.Mathlib.Nat.{mul-le-mul, pos-of-ne-zero, ne-of-gt}
+use native.Mathlib.Nat.{le-refl, mul-le-mul, pos-of-ne-zero, ne-of-gt}
 use native.Mathlib.Omega.{arith}
+use lib.Dec.{lit≤}
 use lib.ListN.{getD, take}
 use lib.Seq.{getD-take, length-take-le}
-use mir.Syntax.{w8, w32}
+use mir.Syntax.{w8, w32, w64}
 use mir.Val.{Fits}
 use mir.Facts.{fits-le, fits-lit}
 use borrow.Author.Needs.{needs}
@@ -33,6 +34,16 @@ Inv-loop n m strides filling scale sizes outputs stride₀ i₀ stride i =
 abbrev μ-loop : tie.MeasureT-loop
 μ-loop n m strides filling scale sizes outputs stride₀ i₀ stride i = i
 
+-- the place before the i-th of n, at most sixteen
+record Place (i n : ℕ) : Type 0 where
+  used : i - 1 < n
+  inside : i - 1 < 16
+  bytes : Fits w64 ((i - 1) * 4)
+  fewer : i - 1 < i
+
+place-at : (i n : ℕ) → 0 < i → i ≤ n → n ≤ 16 → Place i n
+place-at i n some most few = omega arith
+
 -- ---- one turn
 
 module _ (c : tie.In-loop Inv-loop μ-loop) where
@@ -46,12 +57,18 @@ module _ (c : tie.In-loop Inv-loop μ-loop) where
   abbrev i : ℕ
   i = c .before .loop .i
 
+  place : Place i (start .args .n)
+  place = place-at i _ (c .loop-test .taken) (c .before .loop .inv .0) (start .pre .0)
+
   -- the running product is that ink's stride
   here : c .before .loop .stride ≡ stride used (i - 1)
-  here = c .before .loop .inv .1 ∙ running-stride used i (omega arith)
+  here = c .before .loop .inv .1 ∙ running-stride used i (c .loop-test .taken)
 
   stored-fits : getD (start .args .t1) (i - 1) 0 ≤ 4294967295
   stored-fits = let narrow : Fits w32 (getD (start .args .t1) (i - 1) 0) = search needs in omega arith
+
+  filling-fits : getD (start .args .t2) (i - 1) 0 ≤ 4294967295
+  filling-fits = let narrow : Fits w32 (getD (start .args .t2) (i - 1) 0) = search needs in omega arith
 
   size-fits : getD (start .args .t4) (i - 1) 0 ≤ 255
   size-fits = let narrow : Fits w8 (getD (start .args .t4) (i - 1) 0) = search needs in omega arith
@@ -59,8 +76,8 @@ module _ (c : tie.In-loop Inv-loop μ-loop) where
   -- and times that ink's size the next one
   next : running used (i - 1) ≡ running used i * getD (start .args .t4) (i - 1) 0
   next =
-      running-next used i (omega arith) (omega (arith, length-take-le (start .args .n) (start .args .t4) (omega arith)))
-      ∙ ap (λ (g : ℕ). running used i * g) (getD-take (start .args .n) (start .args .t4) (i - 1) 0 (omega arith))
+      running-next used i (c .loop-test .taken) (omega (arith, length-take-le (start .args .n) (start .args .t4) (omega arith)))
+      ∙ ap (λ (g : ℕ). running used i * g) (getD-take (start .args .n) (start .args .t4) (i - 1) 0 (place .used))
 
 -- the stride that was read is right
 stored-is : (c : tie.Else2 Inv-loop μ-loop) →
@@ -107,28 +124,28 @@ used-spec =
     (tie.spec
     Inv-loop
     μ-loop
-    (λ c. (search needs, sym (running-none _ (c .args .n)), search needs, (λ k h l. absurd (omega arith))))
-    (λ c. search needs)
-    (λ c. search needs)
-    (λ c. refuses (λ all. ne-of-gt (all .0 _ (omega arith) .above) (c .if1 .taken)))
-    (λ c. search needs)
-    (λ c. search needs)
-    (λ c. search needs)
-    (λ c. refuses (λ all. c .if2 .taken (all .0 _ (omega arith) .stride-is ∙ sym (here (c .before .before)))))
-    (λ c. search needs)
-    (λ c. search needs)
-    (λ c. search needs)
-    (λ c. fits-le (mul-le-mul {n₂ = 15} {m₂ = 4294967295} (omega arith) (stored-fits (c .before .before))) (fits-lit tt))
-    (λ c. refuses (λ all. c .if3 .taken (all .0 _ (omega arith) .filling-is ∙ ap (λ (x : ℕ). start (c .before .before .before) .args .m * x) (sym (stored-is (c .before))))))
-    (λ c. search needs)
-    (λ c. search needs)
+    (λ c. (le-refl _, sym (running-none _ (c .args .n)), lit≤ tt, (λ k h l. absurd (omega (arith, h, l)))))
+    (λ c. c .loop-test .taken)
+    (λ c. place c .inside)
+    (λ c. refuses (λ all. ne-of-gt (all .0 _ (place (c .before) .used) .above) (c .if1 .taken)))
+    (λ c. place (c .before) .bytes)
+    (λ c. place (c .before) .inside)
+    (λ c. fits-le (stored-fits (c .before)) (fits-lit tt))
+    (λ c. refuses (λ all. c .if2 .taken (all .0 _ (place (c .before .before) .used) .stride-is ∙ sym (here (c .before .before)))))
+    (λ c. place (c .before .before) .bytes)
+    (λ c. place (c .before .before) .inside)
+    (λ c. fits-le (filling-fits (c .before .before)) (fits-lit tt))
+    (λ c. fits-le (mul-le-mul {n₂ = 15} {m₂ = 4294967295} (start (c .before .before) .pre .1) (stored-fits (c .before .before))) (fits-lit tt))
+    (λ c. refuses (λ all. c .if3 .taken (all .0 _ (place (c .before .before .before) .used) .filling-is ∙ ap (λ (x : ℕ). start (c .before .before .before) .args .m * x) (sym (stored-is (c .before))))))
+    (λ c. place (c .before .before .before) .bytes)
+    (λ c. place (c .before .before .before) .inside)
     (λ c. pos-of-ne-zero (c .before .before .if1 .left))
-    (λ c. search needs)
-    (λ c κs. search needs)
-    (λ c. refuses (λ all. not-both _ (c .if4 .taken) (c .before .same-bits .ensures .1 (all .0 _ (omega arith) .scale-is) (scale-is-number _ (omega (arith, size-fits (c .before .before .before .before .before .before)))))))
-    (λ c. search needs)
+    (λ c. tt)
+    (λ c κs. tt)
+    (λ c. refuses (λ all. not-both _ (c .if4 .taken) (c .before .same-bits .ensures .1 (all .0 _ (place (c .before .before .before .before .before .before) .used) .scale-is) (scale-is-number _ (omega (arith, size-fits (c .before .before .before .before .before .before)))))))
+    (λ c. fits-le (size-fits (c .before .before .before .before .before .before)) (fits-lit tt))
     (λ c. fits-le (mul-le-mul {n₂ = 4294967295} {m₂ = 255} (stored-fits (c .before .before .before .before .before .before)) (size-fits (c .before .before .before .before .before .before))) (fits-lit tt))
-    (λ c. search needs)
+    (λ c. place (c .before .before .before .before .before .before) .fewer)
     again
-    (λ c. fits-le (mul-le-mul {n₂ = bound} {m₂ = 15} (c .before .loop .inv .2) (omega arith)) (fits-lit tt))
+    (λ c. fits-le (mul-le-mul {n₂ = bound} {m₂ = 15} (c .before .loop .inv .2) (c .before .before .pre .1)) (fits-lit tt))
     decided)

@@ -1,13 +1,20 @@
 -- `lookup::few::two` meets its contract: each turn sets one answer. Assumes nothing.
-use Prim.Native.Nat.{_-_}
-use native.Mathlib.Omega.{arith}
+use Prim.Native.Nat.{ℕ, _+_, _-_, _≤_}
+use native.Mathlib.Nat.{le-add-right}
+use mathlib.Core.Bool.{Bool, true, false}
 use mathlib.Core.List.{[], _∷_}
 use mathlib.Core.Path.{ap₂, _∙_}
 use lib.Ieee.{Float}
+use lib.ListN.{length}
+use mir.Syntax.{w64}
+use mir.Val.{Fits}
+use mir.Facts.{fits-le}
 use Rattle.binary32.specs.Blend.{along}
+use Rattle.lookup.specs.Lookup.{node}
 use Rattle.lookup.specs.Places.{answer}
 use Rattle.lookup.proofs.Inks.{two-inks}
-use Rattle.lookup.proofs.Turns.{Turned, turned-none, turned-more, turned-all}
+use Rattle.lookup.proofs.Room.{Place, two-place}
+use Rattle.lookup.proofs.Turns.{Turned, Turn, turned-none, a-turn, turned-more, turned-all}
 use Rattle.lookup.proofs.few.two.Statement.{statement}
 use Rattle.lookup.proofs.few.two.Tie as tie
 
@@ -18,6 +25,19 @@ Inv-loop part m out₀ x x-n v y y-n t o₀ out o =
 abbrev μ-loop : tie.MeasureT-loop
 μ-loop part m out₀ x x-n v y y-n t o₀ out o = m - o
 
+module _ (c : tie.In-loop Inv-loop μ-loop) where
+  abbrev start : tie.Start Inv-loop μ-loop
+  start = c .before .before .before .before
+
+  at : (j i : Bool) → Place (node (start .args .d) j + node (start .args .c) i + c .before .loop .o) (length (start .args .part .now))
+  at = two-place (start .args .c) (start .args .d) (start .args .m) _ _ (c .loop-test .taken) (start .good .0 .1) (start .pre .0)
+
+  sum : (j i : Bool) → Fits w64 (node (start .args .d) j + node (start .args .c) i)
+  sum j i = fits-le (le-add-right _ _) (at j i .fits)
+
+  turn : Turn (start .args .m) (c .before .loop .o) (length (c .before .loop .out))
+  turn = a-turn _ _ _ _ _ (c .before .loop .inv) (c .loop-test .taken) (start .pre .1) (start .good .1 .1 .1 .1 .0 .1)
+
 pub two-spec : {M : Type 1} → statement M
 two-spec =
     tie.close
@@ -25,29 +45,29 @@ two-spec =
     Inv-loop
     μ-loop
     (λ c. turned-none _ _ _)
-    (λ c. omega arith)
-    (λ c. omega arith)
-    (λ c. omega arith)
-    (λ c. omega arith)
-    (λ c. omega arith)
-    (λ c. omega arith)
-    (λ c. omega arith)
-    (λ c. omega arith)
+    (λ c. sum c false false)
+    (λ c. at c false false .fits)
+    (λ c. at c false false .bytes)
+    (λ c. at (c .before) false false .inside)
+    (λ c. sum (c .before) false true)
+    (λ c. at (c .before) false true .fits)
+    (λ c. at (c .before) false true .bytes)
+    (λ c. at (c .before .before) false true .inside)
     (λ c κs. tt)
-    (λ c. omega arith)
-    (λ c. omega arith)
-    (λ c. omega arith)
-    (λ c. omega arith)
-    (λ c. omega arith)
-    (λ c. omega arith)
-    (λ c. omega arith)
-    (λ c. omega arith)
+    (λ c. sum (c .before .before .before) true false)
+    (λ c. at (c .before .before .before) true false .fits)
+    (λ c. at (c .before .before .before) true false .bytes)
+    (λ c. at (c .before .before .before .before) true false .inside)
+    (λ c. sum (c .before .before .before .before) true true)
+    (λ c. at (c .before .before .before .before) true true .fits)
+    (λ c. at (c .before .before .before .before) true true .bytes)
+    (λ c. at (c .before .before .before .before .before) true true .inside)
     (λ c κs. tt)
     (λ c κs. tt)
-    (λ c. omega arith)
-    (λ c. omega arith)
-    (λ c. omega arith)
-    (λ c. omega arith)
+    (λ c. turn (c .before .before .before .before .before .before .before) .bytes)
+    (λ c. turn (c .before .before .before .before .before .before .before) .inside)
+    (λ c. turn (c .before .before .before .before .before .before .before) .next)
+    (λ c. turn (c .before .before .before .before .before .before .before) .fewer)
     (λ c. let l = c .before .before .before .before .before .before .before .before .loop in
     let s = c .before .before .before .before .before .before .before .before .before .before .before in
     turned-more _ _ _ _ _ (l .inv) (c .before .before .before .before .before .before .before .loop-test .taken) _
