@@ -1,54 +1,33 @@
-// CLUT elements of the list.
-use crate::calls;
+// CLUT elements of the list, and values without a header.
 use crate::floats;
 use crate::print;
+use crate::record;
 use crate::words;
-ghost use mathlib.Core.Path.{_≡_};
-ghost use Prim.Native.Nat.{_≤_};
-ghost use lib.ListN.{length, take};
 
-// The count, or the length of a buffer where that is less.
-pub(crate) fn fitting(count: usize, buffer: &[u8]) -> usize
-    ensures { λ r. ⌜ (r ≤ length (now (buffer .entry))) × (r ≡ length (take r (now (buffer .entry)))) ⌝ }
-{
-    if count < buffer.len() {
-        return count;
-    }
-    buffer.len()
+// Counts of inks, the old contents of a buffer, and the bytes of an element: what reading it answers, and what it leaves in the buffer.
+pub(crate) fn clut() {
+    let n = words::number();
+    let m = words::number();
+    let t = words::count(4096);
+    let mut entries = floats::buffer(false, t);
+    let left = &mut entries[..t];
+    let c = words::count(4096);
+    let element = words::bytes(c);
+    let laid = clut::read_clut(&element[..c], n, m, left);
+    print::number(laid.refusal);
+    record::show(laid.lut);
+    print::floats(left);
 }
 
-pub(crate) fn clut(text: &[u8], from: usize, table: &mut [f32]) -> usize {
-    let mut head = [0usize; 2];
-    let at = words::words(text, from, &mut head);
-    let old = floats::table(text, at, table);
-    let t = floats::fitting(old.count, table);
-    let count = words::word(text, old.next);
-    let mut element = [0u8; 4096];
-    let c = fitting(count.value as usize, &element);
-    show(
-        head[0],
-        head[1],
-        &mut table[..t],
-        &mut element[..c],
-        text,
-        count.next,
-    )
-}
-
-// The bytes of an element, and what reading it leaves: its answer, and the entries.
-fn show(
-    n: usize,
-    m: usize,
-    entries: &mut [f32],
-    element: &mut [u8],
-    text: &[u8],
-    from: usize,
-) -> usize {
-    let next = words::bytes(text, from, element);
-    let laid = clut::read_clut(element, n, m, entries);
-    print::number(laid.refusal as u64);
-    calls::places(laid.lut);
-    print::floats(entries);
-    print::end();
-    next
+// A precision, a count of values, the old contents of a buffer, and bytes: what reading them answers, and what it leaves in the buffer.
+pub(crate) fn units() {
+    let precision = words::number();
+    let count = words::number();
+    let t = words::count(4096);
+    let mut entries = floats::buffer(false, t);
+    let left = &mut entries[..t];
+    let c = words::count(4096);
+    let values = words::bytes(c);
+    let number = clut::read_units(&values[..c], precision, count, left);
+    print::answer(number, left);
 }

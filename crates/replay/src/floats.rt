@@ -4,10 +4,9 @@ ghost use mathlib.Core.Path.{_≡_};
 ghost use Prim.Native.Nat.{_≤_};
 ghost use lib.ListN.{length, take};
 
-// A count of floats, and the place after the words that were read.
-pub(crate) struct Part {
-    pub count: usize,
-    pub next: usize,
+// The next word's float.
+pub(crate) fn float() -> f32 {
+    patterns::float(words::low_word(words::number()))
 }
 
 // a * b at 32 bits.
@@ -22,68 +21,47 @@ fn hash(seed: u32) -> u32 {
     b ^ (b >> 16)
 }
 
-// Entry i of a table made from a seed: a share of 1 in mode 1, any bits in another.
-fn made(mode: u32, seed: u32, i: u32) -> f32 {
-    let h = hash(std::num::wrapping_add_u32(seed, i));
-    if mode == 1 {
-        return std::num::nearest_u32_to_f32(h >> 8) / 16777216.0;
+// One entry of a table: the next word's float in mode 0, a share of 1 from the seed in mode 1, any bits from it in another.
+fn entry(mode: usize, seed: u32) -> f32 {
+    match mode {
+        0 => float(),
+        1 => std::num::nearest_u32_to_f32(hash(seed) >> 8) / 16777216.0,
+        _ => patterns::float(hash(seed)),
     }
-    patterns::float(h)
 }
 
-// The count, or the length of a buffer where that is less.
-pub(crate) fn fitting(count: usize, buffer: &[f32]) -> usize
-    ensures { λ r. ⌜ (r ≤ length (now (buffer .entry))) × (r ≡ length (take r (now (buffer .entry)))) ⌝ }
+// Fills the first places of a buffer with a table's entries: a mode, and words or a seed; only words where it is listed.
+pub(crate) fn fill(listed: bool, count: usize, into: &mut [f32])
+    requires { ⌜ count ≤ length (now into) ⌝ }
+    ensures { λ _. ⌜ (count ≤ length (now (into .exit))) × (count ≡ length (take count (now (into .exit)))) ⌝ }
 {
-    if count < buffer.len() {
-        return count;
-    }
-    buffer.len()
-}
-
-// The next words as the first floats of a buffer, and the place after them.
-fn read(text: &[u8], from: usize, into: &mut [f32]) -> usize {
-    let mut next = from;
-    let mut i = 0;
-    while i < into.len() {
-        let w = words::word(text, next);
-        into[i] = patterns::float(w.value);
-        next = w.next;
-        i += 1;
-    }
-    next
-}
-
-// Fills a buffer from a seed.
-fn make(mode: u32, seed: u32, into: &mut [f32]) {
-    let mut i = 0;
-    while i < into.len() {
-        into[i] = made(mode, seed, words::low_word(i));
-        i += 1;
+    let mode = match listed {
+        true => 0,
+        false => words::number(),
+    };
+    let mut seed = match mode {
+        0 => 0,
+        _ => words::low_word(words::number()),
+    };
+    for i in 0..count {
+        into[i] = entry(mode, seed);
+        seed = std::num::wrapping_add_u32(seed, 1);
     }
 }
 
-// A count and that many words.
-pub(crate) fn listed(text: &[u8], from: usize, into: &mut [f32]) -> Part {
-    let w = words::word(text, from);
-    let count = fitting(w.value as usize, into);
-    let next = read(text, w.next, &mut into[..count]);
-    Part { count, next }
+// A buffer with a table's entries.
+pub(crate) fn buffer(listed: bool, count: usize) -> [f32; 4096]
+    requires { ⌜ count ≤ 4096 ⌝ }
+    ensures { λ r. ⌜ (count ≤ length r) × (count ≡ length (take count r)) ⌝ }
+{
+    let mut all = [0.0f32; 4096];
+    fill(listed, count, &mut all);
+    all
 }
 
-// A table: its length, a mode, and its words or a seed.
-pub(crate) fn table(text: &[u8], from: usize, into: &mut [f32]) -> Part {
-    let w = words::word(text, from);
-    let count = fitting(w.value as usize, into);
-    let mode = words::word(text, w.next);
-    if mode.value == 0 {
-        let next = read(text, mode.next, &mut into[..count]);
-        return Part { count, next };
-    }
-    let seed = words::word(text, mode.next);
-    make(mode.value, seed.value, &mut into[..count]);
-    Part {
-        count,
-        next: seed.next,
-    }
+// Room for the largest table.
+pub(crate) fn room() -> [f32; 40000]
+    ensures { λ r. ⌜ 40000 ≡ length r ⌝ }
+{
+    [0.0; 40000]
 }

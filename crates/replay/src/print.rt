@@ -1,12 +1,8 @@
-// The lines that are printed.
+// The words that are printed.
 use libc::STDOUT_FILENO;
 
-pub(crate) fn number(value: u64) {
-    io::print_decimal(STDOUT_FILENO, value);
-}
-
-pub(crate) fn end() {
-    io::write_all(STDOUT_FILENO, b"\n");
+pub(crate) fn number(value: u32) {
+    io::print_decimal(STDOUT_FILENO, value as u64);
 }
 
 pub(crate) fn digits(value: u32) {
@@ -20,26 +16,14 @@ pub(crate) fn word(value: u32) {
     digits(value);
 }
 
-pub(crate) fn words(part: &[u32]) {
-    let mut i = 0;
-    while i < part.len() {
-        word(part[i]);
-        i += 1;
-    }
-}
-
-pub(crate) fn bytes(part: &[u8]) {
-    let mut i = 0;
-    while i < part.len() {
-        word(part[i] as u32);
-        i += 1;
-    }
-}
-
 pub(crate) fn floats(part: &[f32]) {
-    let mut i = 0;
-    while i < part.len() {
+    for i in 0..part.len() {
         word(patterns::bits(part[i]));
-        i += 1;
     }
+}
+
+// The words of a call that answers a number and leaves floats.
+pub(crate) fn answer(answered: u32, left: &[f32]) {
+    number(answered);
+    floats(left);
 }

@@ -1,63 +1,71 @@
-// Records: a layout's with one place changed where the list says so, or each place listed.
+// Records: a layout's with one place changed where the list says so, or each place listed; and how they are printed.
+use crate::print;
 use crate::words;
+use layout::Laid;
 use layout::MultidimensionalLut;
-
-// A record, and the place after its words.
-pub(crate) struct Record {
-    pub lut: MultidimensionalLut,
-    pub next: usize,
-}
 
 // Places 0 to 15 are the strides, 16 to 31 the filling sizes, 32 to 47 the scales, 48 to 63 the sizes, then n and m.
 fn changed(lut: MultidimensionalLut, place: usize, value: usize) -> MultidimensionalLut {
-    let mut strides = lut.grid_strides;
-    let mut filling = lut.grid_filling_size;
-    let mut scale = lut.grid_scale;
-    let mut sizes = lut.grid_sizes;
-    let mut inputs = lut.input_inks;
-    let mut outputs = lut.output_inks;
-    let word = words::low_word(value);
-    if place < 16 {
-        strides[place] = word;
-    } else if place < 32 {
-        filling[place - 16] = word;
-    } else if place < 48 {
-        scale[place - 32] = patterns::float(word);
-    } else if place < 64 {
-        sizes[place - 48] = words::low_byte(value);
-    } else if place == 64 {
-        inputs = value;
-    } else if place == 65 {
-        outputs = value;
+    let mut new = lut;
+    let bits = words::low_word(value);
+    let at = place % 16;
+    let row = place / 16;
+    match row {
+        0 => new.grid_strides[at] = bits,
+        1 => new.grid_filling_size[at] = bits,
+        2 => new.grid_scale[at] = patterns::float(bits),
+        3 => new.grid_sizes[at] = (bits % 256) as u8,
+        4 => match at {
+            0 => new.input_inks = value,
+            1 => new.output_inks = value,
+            _ => {}
+        },
+        _ => {}
     }
-    MultidimensionalLut {
-        grid_strides: strides,
-        grid_filling_size: filling,
-        grid_scale: scale,
-        grid_sizes: sizes,
-        input_inks: inputs,
-        output_inks: outputs,
-    }
+    new
 }
 
-// The layout's record of sixteen sizes, n and m; then a place of it and its value.
-pub(crate) fn asked(text: &[u8], from: usize) -> Record {
-    let mut sizes = [0u8; 16];
-    let mut rest = [0usize; 4];
-    let at = words::bytes(text, from, &mut sizes);
-    let next = words::words(text, at, &mut rest);
-    let laid = layout::layout(sizes, rest[0], rest[1]);
-    let lut = changed(laid.lut, rest[2], rest[3]);
-    Record { lut, next }
-}
-
-// A record whose places are listed one by one.
-pub(crate) fn listed(places: &[usize; 66]) -> MultidimensionalLut {
+// A record whose places are listed one by one from the first one on; those before it are zeros.
+pub(crate) fn listed(first: usize) -> MultidimensionalLut {
     let mut lut = layout::refused(0).lut;
-    let mut i: usize = 0;
-    while i < 66 {
-        lut = changed(lut, i, places[i]);
-        i += 1;
+    for place in first..66 {
+        lut = changed(lut, place, words::number());
     }
     lut
+}
+
+// The layout of sixteen sizes, n and m, which are the last places of a record.
+pub(crate) fn laid() -> Laid {
+    let given = listed(48);
+    let sizes = given.grid_sizes;
+    layout::layout(sizes, given.input_inks, given.output_inks)
+}
+
+// The record of a layout, with a place of it changed to a value.
+pub(crate) fn asked() -> MultidimensionalLut {
+    let answer = laid();
+    let place = words::number();
+    changed(answer.lut, place, words::number())
+}
+
+// What stands at a place.
+fn word_at(lut: MultidimensionalLut, place: usize) -> u32 {
+    let at = place % 16;
+    let row = place / 16;
+    match row {
+        0 => lut.grid_strides[at],
+        1 => lut.grid_filling_size[at],
+        2 => patterns::bits(lut.grid_scale[at]),
+        3 => lut.grid_sizes[at] as u32,
+        _ => match at {
+            0 => words::low_word(lut.input_inks),
+            _ => words::low_word(lut.output_inks),
+        },
+    }
+}
+
+pub(crate) fn show(lut: MultidimensionalLut) {
+    for place in 0..66 {
+        print::word(word_at(lut, place));
+    }
 }

@@ -1,86 +1,69 @@
-// The words of the list: unsigned, in hex, one to eight digits, separated by anything else.
+// The words of the list: unsigned, in hex, one to eight digits and a blank or a line's end.
+use libc::STDIN_FILENO;
 ghost use mathlib.Core.Path.{_≡_};
 ghost use Prim.Native.Nat.{_≤_};
 ghost use lib.ListN.{length, take};
 
-// A word, and the place after it.
-pub(crate) struct Found {
-    pub value: u32,
-    pub next: usize,
+// The next byte of the list, 0 after the last.
+fn next_byte() -> u8 {
+    let mut one = [0u8; 1];
+    io::read_full(STDIN_FILENO, &mut one);
+    one[0]
 }
 
-// The value of a hex digit, and 16 for any other byte.
-fn digit(byte: u8) -> u32 {
-    if byte >= b'0' && byte <= b'9' {
-        return (byte - b'0') as u32;
-    }
-    if byte >= b'a' && byte <= b'f' {
-        return (byte - b'a') as u32 + 10;
-    }
-    if byte >= b'A' && byte <= b'F' {
-        return (byte - b'A') as u32 + 10;
-    }
-    16
-}
-
-// The next word from a place on, 0 where there is none.
-pub(crate) fn word(text: &[u8], from: usize) -> Found {
-    let mut value: u32 = 0;
-    let mut started = false;
-    let mut next = from;
-    while next < text.len() {
-        let d = digit(text[next]);
-        next += 1;
-        if d < 16 {
-            started = true;
-            value = (value << 4) | d;
-        } else if started {
+// The next word, 0 after the last. A letter's value is 9 more than its low four bits, which only letters have from 64 on.
+pub(crate) fn number() -> usize {
+    let mut value: usize = 0;
+    for _ in 0..9usize {
+        let byte = next_byte();
+        if byte <= b' ' {
             break;
         }
+        value = (value << 4) | ((byte % 16 + byte / 64 * 9) as usize);
     }
-    Found { value, next }
+    value
 }
 
-// Fills a buffer with the next words, and answers the place after them.
-pub(crate) fn words(text: &[u8], from: usize, into: &mut [usize]) -> usize {
-    let mut next = from;
-    let mut i = 0;
-    while i < into.len() {
-        let w = word(text, next);
-        into[i] = w.value as usize;
-        next = w.next;
-        i += 1;
-    }
-    next
+// The low byte of the next word.
+pub(crate) fn byte() -> u8 {
+    (number() % 256) as u8
 }
 
-// The next words as the bytes of a buffer, and the place after them.
-pub(crate) fn bytes(text: &[u8], from: usize, into: &mut [u8]) -> usize {
-    let mut next = from;
-    let mut i = 0;
-    while i < into.len() {
-        let w = word(text, next);
-        into[i] = low_byte(w.value as usize);
-        next = w.next;
-        i += 1;
-    }
-    next
+pub(crate) fn low_word(number: usize) -> u32 {
+    (number % 4294967296) as u32
 }
 
-// The count, or the length of a buffer where that is less.
-pub(crate) fn fitting(count: usize, buffer: &[usize]) -> usize
-    ensures { λ r. ⌜ (r ≤ length (now (buffer .entry))) × (r ≡ length (take r (now (buffer .entry)))) ⌝ }
+// The next word as a count, or the most where that is less.
+pub(crate) fn count(most: usize) -> usize
+    ensures { λ r. ⌜ r ≤ most ⌝ }
 {
-    if count < buffer.len() {
-        return count;
+    let asked = number();
+    match asked < most {
+        true => asked,
+        false => most,
     }
-    buffer.len()
 }
 
-pub(crate) fn low_byte(value: usize) -> u8 {
-    (value % 256) as u8
+// The next words' bytes.
+pub(crate) fn bytes(count: usize) -> [u8; 4096]
+    requires { ⌜ count ≤ 4096 ⌝ }
+    ensures { λ r. ⌜ (count ≤ length r) × (count ≡ length (take count r)) ⌝ }
+{
+    let mut all = [0u8; 4096];
+    for i in 0..count {
+        all[i] = byte();
+    }
+    all
 }
 
-pub(crate) fn low_word(value: usize) -> u32 {
-    (value % 4294967296) as u32
+// The next words as numbers.
+pub(crate) fn numbers(count: usize) -> [usize; 128]
+    requires { ⌜ count ≤ 128 ⌝ }
+    ensures { λ r. ⌜ (count ≤ length r) × (count ≡ length (take count r)) ⌝ }
+{
+    let mut all = [0usize; 128];
+    for i in 0..count {
+        all[i] = number();
+    }
+    all
 }

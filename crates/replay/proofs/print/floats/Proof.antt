@@ -1,15 +1,14 @@
 -- `replay::print::floats` ends: one word a turn. Assumes nothing.
 use Prim.Native.Nat.{_-_, _≤_}
-use lib.ListN.{length}
 use borrow.Author.Needs.{needs}
 use Rattle.replay.proofs.print.floats.Statement.{statement}
 use Rattle.replay.proofs.print.floats.Tie as tie
 
 abbrev Inv-loop : tie.InvT-loop
-Inv-loop part i₀ i = i ≤ length part
+Inv-loop part i₀ i-end i = i ≤ i-end
 
 abbrev μ-loop : tie.MeasureT-loop
-μ-loop part i₀ i = length part - i
+μ-loop part i₀ i-end i = i-end - i
 
 pub floats-spec : {M : Type 1} → statement M
 floats-spec =

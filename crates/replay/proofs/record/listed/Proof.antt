@@ -1,14 +1,14 @@
 -- `replay::record::listed` ends: one place a turn. Assumes nothing.
-use Prim.Native.Nat.{_-_, _≤_}
+use Prim.Native.Nat.{_-_}
 use borrow.Author.Needs.{needs}
 use Rattle.replay.proofs.record.listed.Statement.{statement}
 use Rattle.replay.proofs.record.listed.Tie as tie
 
 abbrev Inv-loop : tie.InvT-loop
-Inv-loop places lut₀ i₀ lut i = i ≤ 66
+Inv-loop first lut₀ place₀ lut place = Unit
 
 abbrev μ-loop : tie.MeasureT-loop
-μ-loop places lut₀ i₀ lut i = 66 - i
+μ-loop first lut₀ place₀ lut place = 66 - place
 
 pub listed-spec : {M : Type 1} → statement M
 listed-spec =
@@ -18,8 +18,7 @@ listed-spec =
     μ-loop
     (λ c κs. search needs)
     (λ c. search needs)
-    (λ c. search needs)
-    (λ c. search needs)
+    (λ c κs. search needs)
     (λ c κs. search needs)
     (λ c. search needs)
     (λ c. search needs)

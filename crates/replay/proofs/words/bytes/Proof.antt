@@ -1,16 +1,16 @@
--- `replay::words::bytes` ends: one byte a turn. Assumes nothing.
+-- `replay::words::bytes` fills as many places as it says, one a turn. Assumes nothing.
 use Prim.Native.Nat.{_-_}
-use lib.ListN.{length}
+use native.Mathlib.Omega.{arith}
 use borrow.Author.Needs.{needs}
-use Rattle.replay.proofs.Counted.{Filled, filled-next}
+use Rattle.replay.proofs.Counted.{Filled, filled-next, counted}
 use Rattle.replay.proofs.words.bytes.Statement.{statement}
 use Rattle.replay.proofs.words.bytes.Tie as tie
 
 abbrev Inv-loop : tie.InvT-loop
-Inv-loop text from into₀ next₀ i₀ into next i = Filled into₀ into i
+Inv-loop count all₀ i₀ all i = Filled all₀ all count i
 
 abbrev μ-loop : tie.MeasureT-loop
-μ-loop text from into₀ next₀ i₀ into next i = length into₀ - i
+μ-loop count all₀ i₀ all i = count - i
 
 pub bytes-spec : {M : Type 1} → statement M
 bytes-spec =
@@ -21,10 +21,7 @@ bytes-spec =
     (λ c. search needs)
     (λ c κs. search needs)
     (λ c. search needs)
-    (λ c κs. search needs)
-    (λ c. search needs)
     (λ c. search needs)
     (λ c. search needs)
     (λ c. search (needs, filled-next))
-    (λ c. search needs)
-    (λ c. search needs))
+    (λ c. counted _ (c .before .loop .all) (omega arith)))
