@@ -33,7 +33,8 @@ fn main() {
     cluts::all(list, rng);
     slabs::all(list, rng);
     units::all(list, rng);
-    list.stdin.push_str("0\n");
+    // The end: a kind that is none. The case behind it must not be printed.
+    list.stdin.push_str("ff 1 2\n4 9 3\n");
     std::fs::write(format!("{folder}/stdin"), &list.stdin).expect("stdin is written");
     std::fs::write(format!("{folder}/stdout"), &list.stdout).expect("stdout is written");
     assert!(list.stdin.len() <= list::TEXT, "the list is longer than replay's room for it");
