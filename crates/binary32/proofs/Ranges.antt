@@ -1,12 +1,13 @@
 -- `UpTo n x` and `Below n x`: how they come from the value of x and from a comparison, and what follows. `round-upTo`, `round-from`: what rounds from at most, or at least,
--- a whole number that the format holds stays so. `upTo-share`, `below-share`: what is up to 1 lies from 0 to 1; `unit-share`: so does a unit. Assumes nothing.
-use mathlib.Core.Path.{refl, sym, subst}
+-- a whole number that the format holds stays so. `upTo-share`, `below-share`: what is up to 1 lies from 0 to 1; `unit-share`: so does a unit; `share-number`: and is no NaN.
+-- Assumes nothing.
+use mathlib.Core.Path.{_≡_, refl, sym, subst}
 use Prim.Native.Nat.{ℕ, zero, suc, _+_, _*_, _^_, _≤_, _<_}
 use native.Mathlib.Nat.{le-trans, le-of-eq, le-of-lt, lt-of-le-of-lt, lt-of-lt-of-le, zero-lt-suc, mul-one, mul-pos, mul-right-comm, mul-le-mul-right, mul-lt-mul-of-pos-right, lt-of-mul-lt-mul-right, le-of-mul-le-mul-right}
 use native.Mathlib.Omega.{arith}
 use mathlib.Core.Bool.{Bool, true, false, not, cond, true≢false}
 use lib.Dec.{T, ltb, leb→le}
-use lib.Ieee.{Float, nan, inf, fin, Format, binary32, prec, emax, low, down, odd, units, round, le, fits}
+use lib.Ieee.{Float, nan, inf, fin, Format, binary32, prec, emax, low, down, odd, units, round, le, fits, isNan}
 use lib.Ieee.Fits.{down-pos, round-is, round-fits}
 use lib.Ieee.Exact.{HasValue}
 use lib.Ieee.Back.{round-whole}
@@ -117,6 +118,13 @@ round-from f a b n k B N h r =
     (subst T (le-is (round f false n 1) z n 1 (num z) (den z) (zero-lt-suc 0) (den-pos z) (round-whole f false n N) (below-own k z r .0))
     (round-mono f n 1 a b (zero-lt-suc 0) B (le-trans h (le-of-eq (sym (mul-one a)))))))
     (le-of-eq (mul-one (num z)))
+
+-- ---- a share is a number
+pub share-number : (x : Float) → Share x → isNan x ≡ false
+unfolding isNan
+share-number nan s = absurd (s .within)
+share-number (inf b) s = refl
+share-number (fin b m e) s = refl
 
 -- ---- v of `most` lies from 0 to 1
 pub unit-share : (most v : ℕ) → 0 < most → most ≤ 2 ^ prec binary32 → v ≤ most → Share (unitOf most v)

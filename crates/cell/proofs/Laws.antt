@@ -1,5 +1,5 @@
 -- What callers may rely on of a cell, for any size g that a byte holds. (At g = 0 the cell is that of g = 1.)
--- `low-on-grid`, `high-on-grid`: both nodes are at most g - 1, one or neighbours, and the weight is from +0 up and below 1.
+-- `low-on-grid`, `high-on-grid`, `ink-on-grid`: both nodes are at most g - 1, one or neighbours, and the weight is from +0 up and below 1.
 -- `rules-alike`: the two rules give one lower node and one weight, and one upper node too unless that weight is +0.
 -- `low-fits`, `high-fits`: the weight is a value of binary32; `low-share`, `high-share`: so it is one from 0 to 1.
 -- `low-line`, `high-line`: where the product is grid line k, the lower node is k and the weight is +0, and for inks 1 to 4 the upper node is k too.
@@ -10,12 +10,12 @@ use Prim.Native.Nat.{ℕ, _+_, _-_, _*_, _/_, _%_, _≤_, _<_}
 use native.Mathlib.Nat.{le-refl, le-trans, le-of-eq, lt-of-lt-of-le, lt-of-le-of-lt, zero-lt-suc, zero-mul, mul-one, add-zero, sub-self, div-add-mod'}
 use native.Mathlib.Decide.{decLt}
 use native.Mathlib.Omega.{arith}
-use mathlib.Core.Bool.{false}
+use mathlib.Core.Bool.{Bool, true, false, cond}
 use mathlib.Core.Logic.{_⊎_}
 use borrow.Author.Tests.{le-ltb}
 use lib.Arith.{le-zero}
 use lib.IntN.{pos}
-use lib.Dec.{T, lit≤, lit<}
+use lib.Dec.{T, ltb, lit≤, lit<}
 use lib.Ieee.{Float, binary32, round, lt, sub, fits, ofInt}
 use lib.Ieee.Exact.{HasValue}
 use lib.Ieee.Back.{whole-unique}
@@ -27,7 +27,7 @@ use Rattle.binary32.proofs.Values.{lt-is, sub-values, zero-value, revalue}
 use Rattle.binary32.proofs.Exact.{round-zero}
 use Rattle.binary32.proofs.Ranges.{upTo-own, below-own, below-share, round-from}
 use Rattle.cell.specs.declared.Cell.{Cell}
-use Rattle.cell.specs.Rule.{OnGrid, line, productOf, wholeOf, upOf, weightOf, nextOf, cellAt, cellLow, cellHigh}
+use Rattle.cell.specs.Rule.{OnGrid, line, productOf, wholeOf, upOf, weightOf, nextOf, cellAt, cellLow, cellHigh, inkCell}
 use Rattle.cell.proofs.Within.{last, line-is, product-upTo, product-fits, in-grid, whole-le, up-le, whole-le-up, up-le-next, weight-value, weight-below, up-or-none, whole-div, next-le, le-next, next-le-next, whole-line}
 
 -- ---- both nodes and the weight
@@ -53,6 +53,15 @@ module _ (x : Float) (g : ℕ) (G : g < 256) where
   high-on-grid =
       let lower = wholeOf (productOf x g) in
       on-grid (nextOf lower g) (next-le lower g) (le-next lower g (whole-le (g - 1) (productOf x g) (last g G) (product-upTo x g G))) (next-le-next lower g)
+
+  -- whichever rule an ink takes
+  pub ink-on-grid : (i : ℕ) → OnGrid (g - 1) (inkCell i g x)
+  unfolding inkCell
+  ink-on-grid i = go (ltb i 4)
+    where
+      go : (low : Bool) → OnGrid (g - 1) (cond low (cellLow x g) (cellHigh x g))
+      go true = low-on-grid
+      go false = high-on-grid
 
 -- ---- the two rules
 

@@ -9,26 +9,26 @@ use mathlib.Core.Logic.{_⊎_, inl, inr}
 use borrow.Author.Tests.{ltb-true, ltb-false}
 use lib.Dec.{T, le→leb, ltb, nltb→le, lit≤}
 use lib.IntN.{pos}
-use lib.Ieee.{Float, nan, inf, fin, binary32, prec, up, down, lt, inFloat, fits}
+use lib.Ieee.{Float, nan, inf, fin, binary32, prec, up, down, mul, lt, inFloat, fits}
 use lib.Ieee.Back.{unsigned-back}
 use lib.Ieee.Fits.{mul-fits, sub-fits}
 use lib.Ieee.Exact.{HasValue}
 use lib.Ieee.Positive.{num, den, den-pos}
 use Rattle.binary32.specs.Range.{UpTo, Below}
 use Rattle.binary32.specs.Numbers.{plusZero, one}
-use Rattle.cell.specs.Rule.{line, scaleOf, clipOf, productOf, wholeOf, upOf, weightOf, nextOf}
+use Rattle.cell.specs.Rule.{line, scaleOf, inkOf, productOf, wholeOf, upOf, weightOf, nextOf}
 use Rattle.binary32.proofs.Values.{lt-is, mul-values, line-value, zero-value}
 use Rattle.binary32.proofs.Ranges.{below-value, upTo-own, upTo-below, round-upTo}
 use Rattle.binary32.proofs.Whole.{whole-is, whole-lt, rest-exact}
 
 -- ---- the product
-pub clip-upTo : (x : Float) → UpTo 1 (clipOf x)
-unfolding clipOf lt
-clip-upTo nan = lit≤ tt
-clip-upTo (inf true) = lit≤ tt
-clip-upTo (inf false) = lit≤ tt
-clip-upTo (fin true m e) = lit≤ tt
-clip-upTo (fin false m e) = go (ltb (1 * down e) (m * up e * 1)) (ltb (0 * down e) (m * up e * 1)) (nltb→le (1 * down e) (m * up e * 1))
+pub ink-upTo : (x : Float) → UpTo 1 (inkOf x)
+unfolding inkOf lt
+ink-upTo nan = lit≤ tt
+ink-upTo (inf true) = lit≤ tt
+ink-upTo (inf false) = lit≤ tt
+ink-upTo (fin true m e) = lit≤ tt
+ink-upTo (fin false m e) = go (ltb (1 * down e) (m * up e * 1)) (ltb (0 * down e) (m * up e * 1)) (nltb→le (1 * down e) (m * up e * 1))
   where
     go : (s t : Bool) → (T (not s) → m * up e * 1 ≤ 1 * down e) → UpTo 1 (cond s one (cond t (fin false m e) plusZero))
     go true t h = lit≤ tt
@@ -42,24 +42,26 @@ small n h = le-trans (le-of-lt h) (lit≤ tt)
 pub last : (g : ℕ) → g < 256 → g - 1 < 255
 last g h = omega arith
 
+module _ (ink : Float) (share : UpTo 1 ink) (g : ℕ) (byte : g < 256) where
+  pub scaled-upTo : UpTo (g - 1) (mul binary32 ink (scaleOf g))
+  scaled-upTo =
+      let n = g - 1 in
+      let N : n ≤ 2 ^ prec binary32 = small n (omega (arith, last g byte)) in
+      let u = upTo-own 1 ink share in
+      subst (λ (p : Float). UpTo n p) (sym (mul-values binary32 ink (line n) (num ink) (den ink) n 1 (den-pos ink) (zero-lt-suc 0) (u .0) (line-value binary32 n N)))
+      (round-upTo binary32 (num ink * n) (den ink * 1) n (mul-pos (den-pos ink) (zero-lt-suc 0)) N
+      (omega (arith, mul-le-mul-right n (u .1))))
+
+  pub scaled-below : Below 255 (mul binary32 ink (scaleOf g))
+  scaled-below = upTo-below (g - 1) 255 (mul binary32 ink (scaleOf g)) (last g byte) scaled-upTo
+
 pub product-upTo : (x : Float) (g : ℕ) → g < 256 → UpTo (g - 1) (productOf x g)
 unfolding productOf
-product-upTo x g h =
-    let n = g - 1 in
-    let a = num (clipOf x) in
-    let c = den (clipOf x) in
-    let N : n ≤ 2 ^ prec binary32 = small n (omega (arith, last g h)) in
-    let u = upTo-own 1 (clipOf x) (clip-upTo x) in
-    subst (λ (p : Float). UpTo n p) (sym (mul-values binary32 (clipOf x) (line n) a c n 1 (den-pos (clipOf x)) (zero-lt-suc 0) (u .0) (line-value binary32 n N)))
-    (round-upTo binary32 (a * n) (c * 1) n (mul-pos (den-pos (clipOf x)) (zero-lt-suc 0)) N
-    (omega (arith, mul-le-mul-right n (u .1))))
+product-upTo x g byte = scaled-upTo (inkOf x) (ink-upTo x) g byte
 
 pub product-fits : (x : Float) (g : ℕ) → T (fits binary32 (productOf x g))
 unfolding productOf
-product-fits x g = mul-fits binary32 (clipOf x) (scaleOf g)
-
-pub product-in : (r x : Float) (g : ℕ) → g < 256 → r ≡ productOf x g → Below 255 r
-product-in r x g h e = rw e (upTo-below (g - 1) 255 (productOf x g) (last g h) (product-upTo x g h))
+product-fits x g = mul-fits binary32 (inkOf x) (scaleOf g)
 
 -- ---- grid lines
 pub line-is : (k : ℕ) → k < 256 → HasValue (line k) false k 1

@@ -1,26 +1,33 @@
 -- Document 01, "Finding the cell": what a cell of one ink is. Definitions only.
 use Prim.Native.Nat.{ℕ, _+_, _-_, _≤_, min}
 use mathlib.Core.Bool.{Bool, true, false, cond}
-use lib.Ieee.{Float, binary32, sub, mul, lt, toUnsigned}
+use lib.Dec.{ltb}
+use lib.Ieee.{Float, binary32, sub, mul, lt, isNan, toUnsigned}
 use Rattle.binary32.specs.Numbers.{plusZero, one, ofWhole}
 use Rattle.binary32.specs.Range.{Below}
 use Rattle.cell.specs.declared.Cell.{Cell}
+use Rattle.cell.specs.declared.Clipped.{Clipped}
+use Rattle.cell.specs.declared.Found.{Found}
 
 -- grid line k as a float
 abbrev pub line : ℕ → Float
 line k = ofWhole k
 
--- above 1 is 1, above 0 is itself, all else +0.0: a NaN and both zeros are not above 0
-unfoldable pub clipOf : Float → Float
-clipOf x = cond (lt one x) one (cond (lt plusZero x) x plusZero)
+-- the ink of a number: above 1 is 1, above 0 is itself, all else, both zeros included, +0.0
+unfoldable pub inkOf : Float → Float
+inkOf x = cond (lt one x) one (cond (lt plusZero x) x plusZero)
+
+-- document 02, E8: what clipping says, that its input is NaN, for which a lookup's number is 16, or the ink
+unfoldable pub clipOf : Float → Clipped
+clipOf x = cond (isNan x) Clipped.NotANumber (Clipped.Ink (inkOf x))
 
 -- the last grid line, g - 1
 abbrev pub scaleOf : ℕ → Float
 scaleOf g = line (g - 1)
 
--- p: the clipped input times g - 1, rounded
+-- p: the ink of a number times g - 1, rounded
 unfoldable pub productOf : Float → ℕ → Float
-productOf x g = mul binary32 (clipOf x) (scaleOf g)
+productOf x g = mul binary32 (inkOf x) (scaleOf g)
 
 -- the whole part, which is what Rust's `as usize` gives
 abbrev pub wholeOf : Float → ℕ
@@ -49,6 +56,14 @@ cellLow x g = let p = productOf x g in cellAt p (upOf p)
 -- inks 5 and up
 unfoldable pub cellHigh : Float → ℕ → Cell
 cellHigh x g = let p = productOf x g in cellAt p (nextOf (wholeOf p) g)
+
+-- the cell of ink i, counted from 0, in a grid of g lines: inks 1 to 4 take one rule, inks 5 and up the other
+unfoldable pub inkCell : ℕ → ℕ → Float → Cell
+inkCell i g x = cond (ltb i 4) (cellLow x g) (cellHigh x g)
+
+-- what the cell rule says of an input x: that it is NaN, or its cell as a number, c
+abbrev pub foundOf : Float → Cell → Found
+foundOf x c = cond (isNan x) Found.NotANumber (Found.At c)
 
 -- a cell's lower node (false) or its upper one (true)
 abbrev pub node : Cell → Bool → ℕ

@@ -1,8 +1,11 @@
 // Finding the cell of one ink: which two grid lines an input lies between, and how far along.
 ghost use mathlib.Core.Path.{_≡_};
+ghost use mathlib.Core.Bool.{cond};
 ghost use Prim.Native.Nat.{_-_};
-ghost use Rattle.binary32.specs.Range.{Below};
-ghost use Rattle.cell.specs.Rule.{clipOf, wholeOf, upOf, nextOf, productOf, cellAt, cellLow, cellHigh};
+ghost use lib.Dec.{ltb};
+ghost use lib.Ieee.{binary32, mul};
+ghost use Rattle.binary32.specs.Range.{UpTo, Below};
+ghost use Rattle.cell.specs.Rule.{clipOf, scaleOf, wholeOf, upOf, nextOf, cellAt, inkCell, foundOf};
 
 // One axis of a cell: the lower node, the upper node, and the weight of the upper one.
 pub struct Cell {
@@ -11,22 +14,37 @@ pub struct Cell {
     pub w: f32,
 }
 
-// Above 1 is 1, above 0 is itself, and all else, NaN and both zeros included, is +0.0.
-pub fn clip(x: f32) -> f32
+// What clipping says of its input: the ink, from +0.0 to 1, or that it is NaN.
+pub enum Clipped {
+    Ink(f32),
+    NotANumber,
+}
+
+// What the cell rule says of its input: the cell, or that it is NaN.
+pub enum Found {
+    At(Cell),
+    NotANumber,
+}
+
+// NaN is said to be one. Of numbers, above 1 is 1, above 0 is itself, and all else, both zeros included, is +0.0.
+pub fn clip(x: f32) -> Clipped
     ensures { λ r. ⌜ r ≡ clipOf x ⌝ }
 {
+    if x != x {
+        return Clipped::NotANumber;
+    }
     if x > 1.0 {
-        return 1.0;
+        return Clipped::Ink(1.0);
     }
     if x > 0.0 {
-        return x;
+        return Clipped::Ink(x);
     }
-    0.0
+    Clipped::Ink(0.0)
 }
 
 // The whole part of a product, from its exponent and its fraction: of the 24 digits, the leading one
 // and the fraction, those behind the point are shifted out; below 1 that is all of them.
-// (The difference wraps for no product. A NaN that came here would count as 0.)
+// (The difference wraps for no product. Written so, the test is no branch that a processor could guess wrong.)
 fn whole_part(p: f32) -> usize
     requires { ⌜ Below 255 p ⌝ }
     ensures { λ r. ⌜ r ≡ wholeOf p ⌝ }
@@ -60,12 +78,13 @@ fn last_line(g: u8) -> u8
     g - 1
 }
 
-// The product that decides the cell: the clipped input times g - 1, rounded. It is below 255.
-fn product(x: f32, g: u8) -> f32
-    ensures { λ r. ⌜ r ≡ productOf x g ⌝ }
+// The product that decides the cell: the ink times g - 1, rounded. It is below 255.
+fn product(ink: f32, g: u8) -> f32
+    requires { ⌜ UpTo 1 ink ⌝ }
+    ensures { λ r. ⌜ r ≡ mul binary32 ink (scaleOf g) ⌝ }
     ensures ranged { λ r. ⌜ Below 255 r ⌝ }
 {
-    clip(x) * (last_line(g) as f32)
+    ink * (last_line(g) as f32)
 }
 
 // The cell of a product whose nodes are known.
@@ -80,15 +99,6 @@ fn cell_at(p: f32, lower: usize, upper: usize) -> Cell
     }
 }
 
-// The cell of an ink from 1 to 4: the upper node is the product rounded up.
-pub fn cell_low(x: f32, g: u8) -> Cell
-    ensures { λ r. ⌜ r ≡ cellLow x g ⌝ }
-{
-    let p = product(x, g);
-    let lower = whole_part(p);
-    cell_at(p, lower, round_up(p, lower))
-}
-
 // The upper node of an ink from 5 up: the one after the lower node, but never past the last line.
 fn next_node(lower: usize, g: u8) -> usize
     ensures { λ r. ⌜ r ≡ nextOf lower g ⌝ }
@@ -100,11 +110,26 @@ fn next_node(lower: usize, g: u8) -> usize
     lower + 1
 }
 
-// The cell of an ink from 5 up: the upper node is the next one.
-pub fn cell_high(x: f32, g: u8) -> Cell
-    ensures { λ r. ⌜ r ≡ cellHigh x g ⌝ }
+// The upper node of ink i, counted from 0: inks 1 to 4 take the product rounded up, inks 5 and up the next node.
+fn upper_node(i: usize, p: f32, lower: usize, g: u8) -> usize
+    requires { ⌜ Below 255 p × (lower ≡ wholeOf p) ⌝ }
+    ensures { λ r. ⌜ r ≡ cond (ltb i 4) (upOf p) (nextOf (wholeOf p) g) ⌝ }
 {
-    let p = product(x, g);
+    if i < 4 {
+        return round_up(p, lower);
+    }
+    next_node(lower, g)
+}
+
+// The cell of ink i, counted from 0, in a grid of g lines, or that its input is NaN.
+pub fn ink_cell(i: usize, x: f32, g: u8) -> Found
+    ensures { λ r. ⌜ r ≡ foundOf x (inkCell i g x) ⌝ }
+{
+    let clipped = clip(x);
+    let Clipped::Ink(ink) = clipped else {
+        return Found::NotANumber;
+    };
+    let p = product(ink, g);
     let lower = whole_part(p);
-    cell_at(p, lower, next_node(lower, g))
+    Found::At(cell_at(p, lower, upper_node(i, p, lower, g)))
 }

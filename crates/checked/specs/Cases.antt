@@ -3,9 +3,10 @@ use Prim.Native.Nat.{ℕ, _-_, _*_}
 use mathlib.Core.Bool.{Bool, true, false, _&&_}
 use mathlib.Core.List.{List, [], _∷_, _++_, map}
 use lib.Dec.{eqb}
-use lib.Ieee.{Float, nan, binary32, div, toBits}
+use lib.Ieee.{Float, nan, inf, binary32, div, toBits}
 use lib.ListN.{length, take, replicate}
 use Rattle.binary32.specs.Numbers.{ofWhole}
+use Rattle.outcome.specs.Outcome.{onDone}
 use Rattle.lists.specs.Lists.{tabulate}
 use Rattle.layout.specs.Layout.{laidOf, entries}
 use Rattle.layout.specs.declared.Laid.{Laid}
@@ -20,7 +21,7 @@ use Rattle.cubes.specs.Cube as Cube
 pub data Asked : Type 0 where
   total : List ℕ → ℕ → ℕ → Asked  -- a layout's number and total: sizes, n, m
   strides : List ℕ → ℕ → ℕ → Asked  -- the same, then its strides, filling sizes, scales' bits and sizes: sizes, n, m
-  look : List ℕ → ℕ → ℕ → List Float → List Float → Asked  -- a lookup's number and the bits of its answers: sizes, n, m, table, inputs
+  look : List ℕ → ℕ → ℕ → List Float → List Float → Asked  -- a lookup's number and, on 0, the bits of its answers: sizes, n, m, table, inputs
   cube : Blend → ℕ → ℕ → List Float → Float → Float → Float → Asked  -- the same of a cube method between the lines 0 and 1: g, m, table, three weights
   weight : ℕ → ℕ → Asked  -- the number, nodes and weight bits of an 8-bit code: g, index
 
@@ -43,10 +44,11 @@ unfoldable pub stridesOf : Laid → ℕ → List ℕ
 stridesOf laid n =
     totalOf laid ++ take n (laid .lut .«grid_strides») ++ take n (laid .lut .«grid_filling_size») ++ map bits (take n (laid .lut .«grid_scale»)) ++ laid .lut .«grid_sizes»
 
--- with an answer buffer of m places
+-- with an answer buffer of m places; a refusal has no answers
 unfoldable pub lookOf : Laid → ℕ → List Float → List Float → List ℕ
 lookOf laid m table inputs =
-    Table.refusal true (laid .lut) (length table) (length inputs) m ∷ tabulate m (λ o. bits (Table.answerAt (laid .lut) table inputs o))
+    let r = Table.refusal true (laid .lut) (length table) inputs m in
+    r ∷ onDone r (tabulate m (λ o. bits (Table.answerAt (laid .lut) table inputs o))) []
 
 unfoldable pub between : Float → Cell
 between w = record { x = 0; «x_n» = 1; w = w }
@@ -115,10 +117,12 @@ cases =
     ∷ record { asked = strides (2 ∷ 3 ∷ all 7) 2 1; told = 0 ∷ 6 ∷ 3 ∷ 1 ∷ 3 ∷ 1 ∷ bits (ofWhole 1) ∷ bits (ofWhole 2) ∷ 2 ∷ 3 ∷ replicate 14 0 }
     ∷ record { asked = strides (3 ∷ 2 ∷ all 7) 2 1; told = 0 ∷ 6 ∷ 2 ∷ 1 ∷ 2 ∷ 1 ∷ bits (ofWhole 2) ∷ bits (ofWhole 1) ∷ 3 ∷ 2 ∷ replicate 14 0 }
     ∷ record { asked = total (0 ∷ 2 ∷ []) 2 1; told = 3 ∷ 0 ∷ [] }
-    -- P6
+    -- P6, whose NaN is refused since E8, and both infinities
     ∷ record { asked = look (all 2) 1 1 (ofWhole 0 ∷ ofWhole 1 ∷ []) (over 1 4 ∷ []); told = 0 ∷ bits (over 1 4) ∷ [] }
-    ∷ record { asked = look (all 2) 1 1 (ofWhole 0 ∷ ofWhole 1 ∷ []) (nan ∷ []); told = 0 ∷ bits (ofWhole 0) ∷ [] }
+    ∷ record { asked = look (all 2) 1 1 (ofWhole 0 ∷ ofWhole 1 ∷ []) (nan ∷ []); told = 16 ∷ [] }
     ∷ record { asked = look (all 2) 1 1 (ofWhole 0 ∷ ofWhole 1 ∷ []) (ofWhole 2 ∷ []); told = 0 ∷ bits (ofWhole 1) ∷ [] }
+    ∷ record { asked = look (all 2) 1 1 (ofWhole 0 ∷ ofWhole 1 ∷ []) (inf false ∷ []); told = 0 ∷ bits (ofWhole 1) ∷ [] }
+    ∷ record { asked = look (all 2) 1 1 (ofWhole 0 ∷ ofWhole 1 ∷ []) (inf true ∷ []); told = 0 ∷ bits (ofWhole 0) ∷ [] }
     -- P7
     ∷ record {
       asked = look (all 2) 2 1 (ofWhole 0 ∷ ofWhole 1 ∷ ofWhole 2 ∷ ofWhole 3 ∷ []) (over 1 2 ∷ over 1 4 ∷ []);

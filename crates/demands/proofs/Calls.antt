@@ -1,37 +1,24 @@
 -- Demand 3 by what the calls leave: a lookup in the whole table, a cut, and a lookup with one ink fewer in what the cut wrote. Assumes nothing.
 use Prim.Native.Nat.{ℕ, _-_, _<_}
 use mathlib.Core.Path.{_≡_, sym, ap, _∙_, subst}
-use mathlib.Core.Bool.{not}
 use mathlib.Core.List.{List}
 use native.Mathlib.Omega.{arith}
-use lib.Dec.{T, ltb, eqb}
+use lib.Dec.{T}
 use lib.Pow.{areBytes}
 use lib.Ieee.{Float, nan}
 use lib.ListN.{length, getD, take}
-use borrow.Author.Tests.{ltb-false}
-use Rattle.outcome.proofs.Refused.{passed}
-use Rattle.lists.proofs.Buffer.{written-at}
 use Rattle.binary32.specs.Same.{plain, Same}
 use Rattle.layout.specs.declared.MultidimensionalLut.{MultidimensionalLut}
 use Rattle.layout.specs.declared.Laid.{Laid}
 use Rattle.layout.specs.Layout.{laidOf, entries}
 use Rattle.layout.proofs.BySizes.{laid-is-layout, laid-inks}
-use Rattle.lookup.specs.Table.{answerAt, refusal, Looked}
+use Rattle.lookup.specs.Table.{answerAt, Looked}
 use Rattle.slab.specs.Slab.{without, fewer, SlabCut}
 use Rattle.slab.proofs.Fewer.{fewer-outputs, laid-fewer}
 use Rattle.slab.proofs.Cutting.{cut-passed}
-use Rattle.demands.specs.Demand.{Cuttable, Shares, OnLine}
+use Rattle.demands.specs.Demand.{Cuttable, AcceptedInputs, Shares, OnLine}
 use Rattle.demands.proofs.Demands.{on-a-line}
-
--- a lookup that was not refused leaves each answer in the buffer
-pub looked-at : (lut : MultidimensionalLut) (table xs old now : List Float) → Looked lut table xs old 0 now → (o : ℕ) → o < lut .«output_inks» → getD now o nan ≡ answerAt lut table xs o
-unfolding refusal
-looked-at lut table xs old now looked o h =
-    let laid = passed (not (looked .laid)) 9 _ (λ z. omega arith) (sym (looked .number)) in
-    let long = passed (ltb (length table) (entries lut)) 6 _ (λ z. omega arith) (laid .1) in
-    let as-many = passed (not (eqb (length xs) (lut .«input_inks»))) 7 _ (λ z. omega arith) (long .1) in
-    let wide = passed (ltb (length old) (lut .«output_inks»)) 8 0 (λ z. omega arith) (as-many .1) in
-    ap (λ (l : List Float). getD l o nan) (looked .entries) ∙ written-at (answerAt lut table xs) (lut .«output_inks») old o nan h (ltb-false _ _ (wide .0))
+use Rattle.demands.proofs.Inputs.{looked-accepted, looked-at}
 
 -- by a record
 pub calls-agree : (lut : MultidimensionalLut) (table xs : List Float) (j k : ℕ) → Shares table (entries lut) → Cuttable j (lut .«input_inks») → OnLine lut xs (j - 1) k
@@ -42,7 +29,7 @@ pub calls-agree : (lut : MultidimensionalLut) (table xs : List Float) (j k : ℕ
 calls-agree lut table xs j k shares may on old₁ whole first old₂ slab cut old₃ smaller second o h =
     let p = cut-passed lut table j k old₂ slab cut in
     ap plain (looked-at lut table xs old₁ whole first o h)
-    ∙ on-a-line lut (p .is) table shares xs j k may on old₂ slab cut o h
+    ∙ on-a-line lut (p .is) table shares xs (looked-accepted lut table xs old₁ whole first) j k may on old₂ slab cut o h
     ∙ ap plain (sym (looked-at (fewer lut j) slab (without (j - 1) xs) old₃ smaller second o (omega (arith, fewer-outputs lut (p .is) (p .two) j (p .from) (p .to)))))
 
 -- by sizes and counts, as C asks it: the sizes with ink j's taken out, and one ink fewer
@@ -50,12 +37,12 @@ module _ (sizes : List ℕ) (n m : ℕ) (none : laidOf sizes n m .refusal ≡ 0)
   abbrev lut : MultidimensionalLut
   lut = laidOf sizes n m .lut
 
-  pub by-sizes : (others : List ℕ) (table xs : List Float) (j k : ℕ) → take (n - 1) others ≡ without (j - 1) (take n sizes) → Shares table (entries lut) → Cuttable j n → OnLine lut xs (j - 1) k
+  pub by-sizes : (others : List ℕ) (table xs : List Float) (j k : ℕ) → take (n - 1) others ≡ without (j - 1) (take n sizes) → Shares table (entries lut) → AcceptedInputs lut xs → Cuttable j n → OnLine lut xs (j - 1) k
       → (old slab : List Float) → SlabCut lut table j k old 0 slab
       → (o : ℕ) → o < lut .«output_inks» → Same (answerAt lut table xs o) (answerAt (laidOf others (n - 1) m .lut) slab (without (j - 1) xs) o)
-  by-sizes others table xs j k these shares may on old slab cut o h =
+  by-sizes others table xs j k these shares accepted may on old slab cut o h =
       let inks = laid-inks sizes n m none in
       let is = laid-is-layout sizes n m none sixteen bytes in
       let p = cut-passed lut table j k old slab cut in
-      on-a-line lut is table shares xs j k (subst (Cuttable j) (sym inks) may) on old slab cut o h
+      on-a-line lut is table shares xs accepted j k (subst (Cuttable j) (sym inks) may) on old slab cut o h
       ∙ ap (λ (l : Laid). plain (answerAt (l .lut) slab (without (j - 1) xs) o)) (sym (laid-fewer sizes others n m j none sixteen is (omega (arith, inks, p .two)) (p .from) (omega (arith, inks, p .to)) these))

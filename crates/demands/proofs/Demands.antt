@@ -5,7 +5,7 @@ use Prim.Native.Nat.{ℕ, _+_, _-_, _*_, _≤_, _<_}
 use mathlib.Core.Path.{_≡_, sym, ap, _∙_, subst}
 use mathlib.Core.List.{List, reverse}
 use native.Mathlib.Omega.{arith}
-use lib.Ieee.{Float, nan}
+use lib.Ieee.{Float, nan, isNan}
 use lib.ListN.{length, getD}
 use Rattle.lists.proofs.Lists.{last-first-at}
 use Rattle.binary32.specs.Same.{plain, Same}
@@ -18,10 +18,10 @@ use Rattle.layout.proofs.Laws.{inks-to, size-from, size-to, ink-count, size-of}
 use Rattle.lookup.specs.Lookup.{Grid, lookup}
 use Rattle.lookup.specs.Table.{output, answerAt}
 use Rattle.slab.specs.Slab.{insert, without, sizeOf, fewer, SlabCut}
-use Rattle.demands.specs.Demand.{Cuttable, Shares, OnLine, AtANode, OnALine}
+use Rattle.demands.specs.Demand.{Cuttable, AcceptedInputs, Shares, OnLine, AtANode, OnALine}
 use Rattle.demands.proofs.Each.{All, all-last-first, each-map}
 use Rattle.demands.proofs.Lookups.{lookup-agrees}
-use Rattle.slab.proofs.Without.{length-without}
+use Rattle.slab.proofs.Without.{length-without, some-without}
 use Rattle.demands.proofs.InkCells.{Sized, OnLines, low, low-sound, lows, on-lines, cells-within}
 use Rattle.demands.proofs.Rules.{Shared, rules-same}
 use Rattle.demands.proofs.Cuts.{line-in, node-in, node-answer, cut-answer}
@@ -41,7 +41,7 @@ few lut is = omega (arith, ink-count lut is, inks-to lut is)
 shared : (lut : MultidimensionalLut) → IsLayout lut → (table : List Float) → Shares table (entries lut) → (o : ℕ) → o < lut .«output_inks» → Shared (inkSizes lut) (output lut table o)
 shared lut is table shares o h ks w = shares _ (omega (arith, entries-within (inkSizes lut) ks (lut .«output_inks») w))
 
-module _ (lut : MultidimensionalLut) (is : IsLayout lut) (table : List Float) (shares : Shares table (entries lut)) (xs : List Float) where
+module _ (lut : MultidimensionalLut) (is : IsLayout lut) (table : List Float) (shares : Shares table (entries lut)) (xs : List Float) (accepted : AcceptedInputs lut xs) where
   -- ---- all inks on grid lines, listed first ink first
 
   module _ (lines : List ℕ) (len : length lines ≡ lut .«input_inks»)
@@ -89,12 +89,15 @@ module _ (lut : MultidimensionalLut) (is : IsLayout lut) (table : List Float) (s
         passed-done lut (length table) j k (length old) r (record { is = is; enough = enough; from = one; to = to; two = two; in-grid = in-grid; holds = holds })
         (record { laid = cut .laid; decides = cut .decides; number = cut .number })
 
-    -- the smaller lookup is accepted: its layout, its table of enough entries, its inputs in the right number; and its entries are from 0 to 1 again
+    -- the smaller lookup is accepted: its layout, its table of enough entries, its inputs; and its entries are from 0 to 1 again
     pub smaller-layout : IsLayout (fewer lut j)
     smaller-layout = fewer-is-layout lut is two j one to
 
-    pub smaller-inputs : length xs ≡ lut .«input_inks» → length (without (j - 1) xs) ≡ fewer lut j .«input_inks»
-    smaller-inputs e = omega (arith, fewer-inks lut is two j one to, length-without (j - 1) xs (omega (arith, from, to)), from)
+    pub smaller-inputs : AcceptedInputs (fewer lut j) (without (j - 1) xs)
+    smaller-inputs = (
+      omega (arith, fewer-inks lut is two j one to, length-without (j - 1) xs (omega (arith, from, to, accepted .0)), accepted .0),
+      some-without isNan xs (j - 1) (accepted .1),
+    )
 
     module _ (old smaller : List Float) (cut : SlabCut lut table j k old 0 smaller) where
       pub smaller-table : entries (fewer lut j) ≤ length smaller

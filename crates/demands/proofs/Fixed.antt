@@ -4,12 +4,12 @@ use Prim.Native.Nat.{ℕ, zero, suc, _<_}
 use mathlib.Core.Path.{_≡_, refl, sym, _∙_}
 use mathlib.Core.List.{List, [], _∷_}
 use native.Mathlib.Omega.{arith}
-use lib.Ieee.{Float, fits, ofInt, mul, lt}
+use lib.Ieee.{Float, fits, ofInt, mul, lt, isNan}
 use lib.ListN.{getD, replicate}
-use Rattle.lists.specs.Lists.{tabulate, every, lastFirst, product}
+use Rattle.lists.specs.Lists.{tabulate, every, some, lastFirst, product}
 use Rattle.binary32.specs.Numbers.{plusZero, one}
 use Rattle.binary32.specs.Same.{plain}
-use Rattle.cell.specs.Rule.{clipOf, productOf}
+use Rattle.cell.specs.Rule.{inkOf, productOf}
 use Rattle.layout.specs.declared.MultidimensionalLut.{MultidimensionalLut}
 use Rattle.layout.specs.Order.{index}
 use Rattle.layout.specs.Layout.{isCount, recordOf, laidUsing, laidOf, IsLayout, entries}
@@ -34,12 +34,12 @@ shares (suc (suc e)) h = absurd (omega arith)
 
 -- its two nodes
 at-zero : (i : ℕ) → i < lut .«input_inks» → OnLine lut (plusZero ∷ []) i (getD (0 ∷ []) i 0)
-unfolding ofInt mul lt clipOf productOf recordOf tabulate
+unfolding ofInt mul lt inkOf productOf recordOf tabulate
 at-zero zero h = refl
 at-zero (suc i) h = absurd (omega arith)
 
 at-one : (i : ℕ) → i < lut .«input_inks» → OnLine lut (one ∷ []) i (getD (1 ∷ []) i 0)
-unfolding ofInt mul lt clipOf productOf recordOf tabulate
+unfolding ofInt mul lt inkOf productOf recordOf tabulate
 at-one zero h = refl
 at-one (suc i) h = absurd (omega arith)
 
@@ -47,6 +47,6 @@ apart : plain plusZero ≡ plain one → ⊥
 apart e = let z : _≡_ {A = ℕ} 0 1 = cc in omega arith
 
 pub no-fixed-colour : (colour : Float) → AtANode (λ lut table xs o. colour) → ⊥
-unfolding index recordOf lastFirst tabulate
+unfolding index recordOf lastFirst tabulate some isNan
 no-fixed-colour colour met =
-    apart (sym (met lut is table shares (plusZero ∷ []) (0 ∷ []) refl at-zero 0 (omega arith)) ∙ met lut is table shares (one ∷ []) (1 ∷ []) refl at-one 0 (omega arith))
+    apart (sym (met lut is table shares (plusZero ∷ []) (refl, refl) (0 ∷ []) refl at-zero 0 (omega arith)) ∙ met lut is table shares (one ∷ []) (refl, refl) (1 ∷ []) refl at-one 0 (omega arith))

@@ -14,12 +14,12 @@ use lib.Seq.{take-length}
 use Rattle.binary32.specs.Numbers.{plusZero}
 use Rattle.binary32.specs.Range.{Share}
 use Rattle.cell.specs.declared.Cell.{Cell}
-use Rattle.cell.specs.Rule.{OnGrid, line, productOf, cellLow, cellHigh}
+use Rattle.cell.specs.Rule.{OnGrid, line, productOf, cellLow, cellHigh, inkCell}
 use Rattle.cell.proofs.Laws.{Alike, rules-alike, low-on-grid, high-on-grid, low-share, high-share, low-line, product-line}
 use Rattle.lists.proofs.Lists.{reverse-next}
 use Rattle.layout.specs.Order.{Within}
 use Rattle.lookup.specs.Lookup.{node}
-use Rattle.lookup.specs.Table.{inkCell, cells}
+use Rattle.lookup.specs.Table.{cells}
 use Rattle.slab.specs.Slab.{without}
 use Rattle.demands.proofs.Each.{either-way, All, Each, each-map, Weights, lowers}
 use Rattle.slab.proofs.Without.{length-without, getD-without-below, getD-without-from}

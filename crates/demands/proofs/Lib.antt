@@ -1,5 +1,6 @@
 -- Demand 3 (`Demands`) from the bottom up. `Each`: what holds at each node of the cells. `Lookups`, `Lines`: a lookup over cells and a grid function.
--- `InkCells`: the cells of the inputs. `Rules`: one rule serves every ink. `Cuts`: demand 3 for any sizes. `Calls`: demand 3 by what the calls leave. `Fixed`: no fixed colour meets it. `Read`: demand 3
+-- `InkCells`: the cells of the inputs. `Rules`: one rule serves every ink. `Cuts`: demand 3 for any sizes. `Inputs`: which inputs a lookup
+-- accepts, by what the calls leave. `Calls`: demand 3 by what they leave. `Fixed`: no fixed colour meets it. `Read`: demand 3
 -- in a table that was read from a CLUT element or as plain values.
 pub mod Each
 pub mod Lookups
@@ -8,6 +9,7 @@ pub mod InkCells
 pub mod Rules
 pub mod Cuts
 pub mod Demands
+pub mod Inputs
 pub mod Calls
 pub mod Fixed
 pub mod Read

@@ -18,11 +18,11 @@ use Rattle.binary32.proofs.Held.{Held, share-held}
 use Rattle.binary32.proofs.Signs.{lerp-same}
 use Rattle.binary32.proofs.Nodes.{lerp-zero}
 use Rattle.cell.specs.declared.Cell.{Cell}
-use Rattle.cell.specs.Rule.{cellLow, cellHigh}
+use Rattle.cell.specs.Rule.{cellLow, cellHigh, inkCell}
 use Rattle.cell.proofs.Laws.{Alike}
 use Rattle.layout.specs.Order.{Within}
 use Rattle.lookup.specs.Lookup.{Grid, node, part, lookup}
-use Rattle.lookup.specs.Table.{inkCell, cells}
+use Rattle.lookup.specs.Table.{cells}
 use Rattle.demands.proofs.Each.{All, all-map, Each, each-map, Weights}
 use Rattle.demands.proofs.Lookups.{lookup-held, lookup-step}
 use Rattle.demands.proofs.InkCells.{Sized, Rule, Sound, cellsBy, by-ink, low, low-sound, ink-sound, ink-alike, lows, node-below, length-cells, cells-within, cells-shares}

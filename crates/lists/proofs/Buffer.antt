@@ -100,6 +100,11 @@ pub length-left : {A : Type 0} (r : ℕ) (f : ℕ → A) (m : ℕ) (old : List A
 length-left zero f m old = length-written f m old
 length-left (suc r) f m old = refl
 
+-- what is not written may be another
+pub left-same : {A : Type 0} (r : ℕ) (f g : ℕ → A) (m : ℕ) (old : List A) → written f m old ≡ written g m old → left r f m old ≡ left r g m old
+left-same zero f g m old e = e
+left-same (suc r) f g m old e = refl
+
 -- a call that gave the refusal r, which is the number k, leaves the old list
 pub unwritten : {A : Type 0} {r : ℕ} (k : ℕ) (f : ℕ → A) (m : ℕ) (old : List A) → (r ≡ 0 → ⊥) → r ≡ k → old ≡ left k f m old
 unwritten zero f m old refused number = absurd (refused number)

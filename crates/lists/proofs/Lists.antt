@@ -14,7 +14,7 @@ use lib.Ieee.Positive.{first-pos}
 use lib.ListN.{length, getD, take, drop, set}
 use lib.Seq.{length-take-le, getD-take, take-suc, take-length}
 use borrow.Author.Tests.{ltb-true, eqb-true, lt-ltb}
-use Rattle.lists.specs.Lists.{tabulate, every, lastFirst, product}
+use Rattle.lists.specs.Lists.{tabulate, every, some, lastFirst, product}
 
 -- ---- tabulate
 
@@ -99,6 +99,28 @@ first-every p xs n in-xs h =
     every-of p (take n xs) (λ i l.
     let below : i < n = omega (arith, length-take-le n xs in-xs) in
     rw (getD-take n xs i 0 below) (h i below))
+
+-- ---- some
+
+pub neither-of : (a b : Bool) → (a || b) ≡ false → (a ≡ false) × (b ≡ false)
+neither-of true b h = absurd (true≢false h)
+neither-of false b h = (refl, h)
+
+or-right : (a b : Bool) → b ≡ true → (a || b) ≡ true
+or-right true b h = refl
+or-right false b h = h
+
+module _ {A : Type 0} (p : A → Bool) (none : A) where
+  pub some-at : (xs : List A) (i : ℕ) → i < length xs → p (getD xs i none) ≡ true → some p xs ≡ true
+  unfolding some
+  some-at [] i l h = absurd (not-suc-le-zero l)
+  some-at (x ∷ xs) zero l h = simp h
+  some-at (x ∷ xs) (suc i) l h = or-right (p x) (some p xs) (some-at xs i (le-of-suc-le-suc l) h)
+
+  pub some-none : (xs : List A) → ((i : ℕ) → i < length xs → p (getD xs i none) ≡ false) → some p xs ≡ false
+  unfolding some
+  some-none [] h = refl
+  some-none (x ∷ xs) h = rw (h 0 (suc-le-suc (omega arith))) (some-none xs (λ i l. h (suc i) (suc-le-suc l)))
 
 -- an entry of a list of bytes is one
 pub bytes-at : (xs : List ℕ) → T (areBytes xs) → (i : ℕ) → getD xs i 0 < 256

@@ -14,7 +14,7 @@ use Rattle.layout.specs.declared.MultidimensionalLut.{MultidimensionalLut}
 use Rattle.layout.specs.Layout.{laidOf, IsLayout, inkSizes}
 use Rattle.layout.specs.Order.{Steps}
 use Rattle.layout.proofs.BySizes.{laid-size, laid-sizes, laid-inks, laid-outputs}
-use Rattle.lookup.specs.Table.{answerAt, refusal, refusalBySizes, LookedBySizes}
+use Rattle.lookup.specs.Table.{answerAt, nanRefusal, refusal, refusalBySizes, LookedBySizes}
 use Rattle.layout.specs.Lengths.{lengthRefusal}
 use Rattle.lookup.specs.Places.{Promised, answerIn, Answered}
 use Rattle.lookup.proofs.Grid.{laid-of}
@@ -53,12 +53,12 @@ module _ (sizes : List ℕ) (n m : ℕ) (none : laidOf sizes n m .refusal ≡ 0)
   laid-by-sizes is filling row = promised-by filling (lut .«grid_sizes») sizes n m (laid-size sizes n m none) (moved _ _ _ _ _ _ _ row inks outputs (laid-of lut is))
 
   module _ (table inputs old : List Float) (r : ℕ) (now : List Float) (answered : Answered (lastFirst n sizes) n m table inputs old r now) where
-    number : r ≡ refusalBySizes sizes n m (length table) (length inputs) (length old)
+    number : r ≡ refusalBySizes sizes n m (length table) inputs (length old)
     unfolding refusal
     number =
         answered .number
-        ∙ (λ i. lengthRefusal (product (gs i) * outputs i) (inks i) (length table) (length inputs) (cond (ltb (length old) (outputs i)) 8 0))
-        ∙ ap (λ (k : ℕ). orElse k (refusal true lut (length table) (length inputs) (length old))) (sym none)
+        ∙ (λ i. lengthRefusal (product (gs i) * outputs i) (inks i) (length table) (length inputs) (cond (ltb (length old) (outputs i)) 8 (nanRefusal inputs)))
+        ∙ ap (λ (k : ℕ). orElse k (refusal true lut (length table) inputs (length old))) (sym none)
 
     pub looked-by-sizes : LookedBySizes sizes n m table inputs old r now
     unfolding answerAt

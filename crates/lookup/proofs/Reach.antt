@@ -3,7 +3,7 @@ use Prim.Native.Nat.{ℕ, _+_, _-_, _*_, _≤_, _<_, max}
 use native.Mathlib.Omega.{arith}
 use native.Mathlib.Nat.{mul-comm, mul-assoc, mul-le-mul-right, suc-mul}
 use mathlib.Core.Path.{_≡_, ap, _∙_}
-use mathlib.Core.Bool.{Bool, true, false, cond}
+use mathlib.Core.Bool.{true}
 use mathlib.Core.List.{List, [], _∷_}
 use lib.Dec.{ltb}
 use lib.Ieee.{Float, nan}
@@ -12,19 +12,10 @@ use borrow.Author.Tests.{ltb-true}
 use Rattle.lists.specs.Lists.{every, product}
 use Rattle.lists.proofs.Lists.{every-head, every-rest}
 use Rattle.cell.specs.declared.Cell.{Cell}
-use Rattle.cell.specs.Rule.{OnGrid, cellLow, cellHigh}
-use Rattle.cell.proofs.Laws.{low-on-grid, high-on-grid}
-use Rattle.lookup.specs.Table.{inkCell, cells}
+use Rattle.cell.specs.Rule.{inkCell}
+use Rattle.cell.proofs.Laws.{ink-on-grid}
+use Rattle.lookup.specs.Table.{cells}
 use Rattle.lookup.specs.Places.{reach, strides, scaled}
-
--- whichever rule an ink takes, its cell is on the grid
-pub on-grid : (i g : ℕ) (x : Float) → g < 256 → OnGrid (g - 1) (inkCell i g x)
-unfolding inkCell
-on-grid i g x byte = go (ltb i 4)
-  where
-    go : (low : Bool) → OnGrid (g - 1) (cond low (cellLow x g) (cellHigh x g))
-    go true = low-on-grid x g byte
-    go false = high-on-grid x g byte
 
 -- what one more ink adds: nodes below g at distances of m
 one-more : (x xn g m p r : ℕ) → x < g → xn < g → r + m * g ≤ p * (m * g) → max (x * m) (xn * m) + r + m ≤ g * p * m
@@ -42,7 +33,7 @@ pub reach-total : (gs : List ℕ) (xs : List Float) (m : ℕ) → every (ltb 0) 
 unfolding cells product
 reach-total [] xs m some bytes = omega arith
 reach-total (g ∷ gs) xs m some bytes =
-    let on = on-grid (length gs) g (getD xs (length gs) nan) (ltb-true g 256 (every-head (λ k. ltb k 256) g gs bytes)) in
+    let on = ink-on-grid (getD xs (length gs) nan) g (ltb-true g 256 (every-head (λ k. ltb k 256) g gs bytes)) (length gs) in
     let pos : 0 < g = ltb-true 0 g (every-head (ltb 0) g gs some) in
     let c = inkCell (length gs) g (getD xs (length gs) nan) in
     one-more (c .x) (c .«x_n») g m (product gs) (reach (scaled (strides (m * g) gs) (cells gs xs))) (omega (arith, on .lower)) (omega (arith, on .upper))
@@ -50,4 +41,4 @@ reach-total (g ∷ gs) xs m some bytes =
 
 -- the nodes of an ink's cell are below the size, so a byte
 pub cell-below : (c : Cell) (i g : ℕ) (x : Float) → c ≡ inkCell i g x → g < 256 → (c .x < 256) × (c .«x_n» < 256)
-cell-below c i g x is byte = let on = on-grid i g x byte in rw is (omega (arith, on .lower), omega (arith, on .upper))
+cell-below c i g x is byte = let on = ink-on-grid x g byte i in rw is (omega (arith, on .lower), omega (arith, on .upper))

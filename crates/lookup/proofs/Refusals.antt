@@ -7,15 +7,14 @@ use lib.Ieee.{Float}
 use lib.ListN.{length}
 use borrow.Author.Tests.{lt-ltb, le-ltb}
 use Rattle.outcome.specs.Outcome.{Decides}
-use Rattle.lists.specs.Buffer.{written}
 use Rattle.lists.specs.Lists.{product}
 use Rattle.lists.proofs.Buffer.{unwritten}
 use Rattle.layout.specs.declared.MultidimensionalLut.{MultidimensionalLut}
 use Rattle.layout.specs.Layout.{IsLayout, inkSizes}
 use Rattle.layout.specs.Lengths.{lengthRefusal}
 use Rattle.layout.proofs.Lengths.{Passed, refused-by, passed}
-use Rattle.lookup.specs.Table.{answerAt, refusal, Looked}
-use Rattle.lookup.specs.Places.{answerIn, Answered}
+use Rattle.lookup.specs.Table.{answerAt, nanRefusal, refusal, Looked}
+use Rattle.lookup.specs.Places.{answerIn, Settled, Answered}
 
 -- ---- a lookup, after an accepted layout
 
@@ -28,10 +27,14 @@ module _ (gs : List ℕ) (n m : ℕ) (table inputs old : List Float) (r : ℕ) (
     answered-passed = passed true (product gs * m) n (length table) (length inputs) r 0 number z
 
     pub answered-short : length old < m → Answered gs n m table inputs old 8 old
-    answered-short short = record { number = sym (ap (λ (b : Bool). cond b 8 0) (lt-ltb _ _ short)) ∙ answered-passed .next _; entries = refl }
+    answered-short short = record { number = sym (ap (λ (b : Bool). cond b 8 (nanRefusal inputs)) (lt-ltb _ _ short)) ∙ answered-passed .next _; entries = refl }
 
-    pub answered-done : m ≤ length old → (now : List Float) → now ≡ written (answerIn gs m table inputs) m old → Answered gs n m table inputs old 0 now
-    answered-done room now e = record { number = sym (ap (λ (b : Bool). cond b 8 0) (le-ltb _ _ room)) ∙ answered-passed .next _; entries = e }
+    pub answered-blended : m ≤ length old → (k : ℕ) (now : List Float) → Settled (answerIn gs m table inputs) m inputs old k now → Answered gs n m table inputs old k now
+    answered-blended room k now blended =
+        record {
+          number = blended .number ∙ sym (ap (λ (b : Bool). cond b 8 (nanRefusal inputs)) (le-ltb _ _ room)) ∙ answered-passed .next _;
+          entries = blended .entries;
+        }
 
 -- the lookup by a record
 module _ (lut : MultidimensionalLut) (table inputs old : List Float) (laid : Bool) (decides : Decides laid (IsLayout lut)) where
@@ -45,6 +48,6 @@ module _ (lut : MultidimensionalLut) (table inputs old : List Float) (laid : Boo
       record {
         laid = laid;
         decides = decides;
-        number = answered .number ∙ ap (λ (b : Bool). refusal b lut (length table) (length inputs) (length old)) (sym is);
+        number = answered .number ∙ ap (λ (b : Bool). refusal b lut (length table) inputs (length old)) (sym is);
         entries = answered .entries;
       }

@@ -22,7 +22,7 @@ lookup-unique κs a x y ws vs p q =
     let old = a .1 .1 .1 .0 .now in
     let number : x ≡ y =
     p .number
-    ∙ ap (λ (b : Bool). refusal b lut (length table) (length inputs) (length old)) (decided (p .laid) (q .laid) (p .decides) (q .decides))
+    ∙ ap (λ (b : Bool). refusal b lut (length table) inputs (length old)) (decided (p .laid) (q .laid) (p .decides) (q .decides))
     ∙ sym (q .number) in
     let entries : ws .1 .1 .1 .0 ≡ vs .1 .1 .1 .0 =
     p .entries ∙ ap (λ (r : ℕ). left r (answerAt lut table inputs) (lut .«output_inks») old) number ∙ sym (q .entries) in

@@ -5,16 +5,17 @@ use mathlib.Core.Path.{_≡_}
 use mathlib.Core.Bool.{Bool, true, false, not, cond}
 use mathlib.Core.List.{List, [], _∷_}
 use lib.Dec.{ltb}
-use lib.Ieee.{Float, nan, le}
+use lib.Ieee.{Float, nan, isNan, le}
 use lib.ListN.{length, getD, drop}
 use Rattle.binary32.specs.Blend.{lerp, terms, rise}
 use Rattle.lists.specs.Lists.{lastFirst, product}
 use Rattle.lists.specs.Buffer.{left}
 use Rattle.cell.specs.declared.Cell.{Cell}
+use Rattle.cell.specs.Rule.{inkCell}
 use Rattle.layout.specs.Order.{index, Steps}
 use Rattle.layout.specs.Lengths.{lengthRefusal}
 use Rattle.lookup.specs.Lookup.{Grid, node, lookup}
-use Rattle.lookup.specs.Table.{inkCell, cells}
+use Rattle.lookup.specs.Table.{cells, nanRefusal}
 
 -- the sum of a list of distances
 abbrev pub sum : List ℕ → ℕ
@@ -136,7 +137,16 @@ pub record Promised (filling sizes : List ℕ) (n m : ℕ) : Type 0 where
 abbrev pub answerIn : List ℕ → ℕ → List Float → List Float → ℕ → Float
 answerIn gs m table xs o = lookup (λ ks. getD table (index gs ks * m + o) nan) (cells gs xs)
 
+-- no NaN is among the first n inputs
+abbrev pub NoNans : List Float → ℕ → Type 0
+NoNans xs n = (i : ℕ) → i < n → isNan (getD xs i nan) ≡ false
+
+-- what is owed after the tests of the lengths: the number r, and the answer buffer afterwards, `now`, which was `old`
+pub record Settled (answer : ℕ → Float) (m : ℕ) (inputs old : List Float) (r : ℕ) (now : List Float) : Type 0 where
+  pub number : r ≡ nanRefusal inputs
+  pub entries : now ≡ left r answer m old
+
 -- what is owed after an accepted layout: the number r, and the answer buffer afterwards, `now`, which was `old`
 pub record Answered (gs : List ℕ) (n m : ℕ) (table inputs old : List Float) (r : ℕ) (now : List Float) : Type 0 where
-  pub number : r ≡ lengthRefusal (product gs * m) n (length table) (length inputs) (cond (ltb (length old) m) 8 0)
+  pub number : r ≡ lengthRefusal (product gs * m) n (length table) (length inputs) (cond (ltb (length old) m) 8 (nanRefusal inputs))
   pub entries : now ≡ left r (answerIn gs m table inputs) m old

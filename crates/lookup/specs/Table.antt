@@ -4,12 +4,13 @@ use mathlib.Core.Path.{_≡_}
 use mathlib.Core.Bool.{Bool, true, cond, not}
 use mathlib.Core.List.{List, [], _∷_}
 use lib.Dec.{ltb, eqb}
-use lib.Ieee.{Float, nan}
+use lib.Ieee.{Float, nan, isNan}
 use lib.ListN.{length, getD}
 use Rattle.outcome.specs.Outcome.{Decides, orElse}
+use Rattle.lists.specs.Lists.{some}
 use Rattle.lists.specs.Buffer.{left}
 use Rattle.cell.specs.declared.Cell.{Cell}
-use Rattle.cell.specs.Rule.{cellLow, cellHigh}
+use Rattle.cell.specs.Rule.{inkCell}
 use Rattle.layout.specs.declared.MultidimensionalLut.{MultidimensionalLut}
 use Rattle.layout.specs.Order.{index}
 use Rattle.layout.specs.Layout.{laidOf, IsLayout, inkSizes, entries}
@@ -19,11 +20,7 @@ use Rattle.lookup.specs.Lookup.{Grid, lookup}
 abbrev pub output : MultidimensionalLut → List Float → ℕ → Grid
 output lut table o ks = getD table (index (inkSizes lut) ks * lut .«output_inks» + o) nan
 
--- the cell of ink i, counted from 0, in a grid of g lines: inks 1 to 4 take one rule, inks 5 and up the other
-unfoldable pub inkCell : ℕ → ℕ → Float → Cell
-inkCell i g x = cond (ltb i 4) (cellLow x g) (cellHigh x g)
-
--- the cells of the inputs xs, last ink first, as the sizes are: the head of the sizes belongs to the ink of the rest's length
+-- the cells of the inputs xs, numbers all, last ink first, as the sizes are: the head of the sizes belongs to the ink of the rest's length
 unfoldable pub cells : List ℕ → List Float → List Cell
 cells [] xs = []
 cells (g ∷ gs) xs = inkCell (length gs) g (getD xs (length gs) nan) ∷ cells gs xs
@@ -32,27 +29,31 @@ cells (g ∷ gs) xs = inkCell (length gs) g (getD xs (length gs) nan) ∷ cells 
 unfoldable pub answerAt : MultidimensionalLut → List Float → List Float → ℕ → Float
 answerAt lut table xs o = lookup (output lut table o) (cells (inkSizes lut) xs)
 
--- 9 not a layout's record, 6 a short table, 7 the number of inputs, 8 a short answer buffer: the first that applies, and 0 where none does
-unfoldable pub refusal : Bool → MultidimensionalLut → ℕ → ℕ → ℕ → ℕ
+-- document 02, E8: 16 where some input is NaN
+abbrev pub nanRefusal : List Float → ℕ
+nanRefusal inputs = cond (some isNan inputs) 16 0
+
+-- 9 not a layout's record, 6 a short table, 7 the number of inputs, 8 a short answer buffer, 16 a NaN input: the first that applies, and 0 where none does
+unfoldable pub refusal : Bool → MultidimensionalLut → ℕ → List Float → ℕ → ℕ
 refusal laid lut table inputs room =
     cond (not laid) 9
     (cond (ltb table (entries lut)) 6
-    (cond (not (eqb inputs (lut .«input_inks»))) 7
+    (cond (not (eqb (length inputs) (lut .«input_inks»))) 7
     (cond (ltb room (lut .«output_inks»)) 8
-    0)))
+    (nanRefusal inputs))))
 
 -- what a lookup owes: its number r, and the answer buffer afterwards, `now`, which was `old`
 pub record Looked (lut : MultidimensionalLut) (table inputs old : List Float) (r : ℕ) (now : List Float) : Type 0 where
   pub laid : Bool
   pub decides : Decides laid (IsLayout lut)
-  pub number : r ≡ refusal laid lut (length table) (length inputs) (length old)
+  pub number : r ≡ refusal laid lut (length table) inputs (length old)
   pub entries : now ≡ left r (answerAt lut table inputs) (lut .«output_inks») old
 
--- laid out by sizes and counts: 1, 2, 3, 5, then 6, 7, 8. An accepted layout's record is a layout's, `true`: no 9 is given
-abbrev pub refusalBySizes : List ℕ → ℕ → ℕ → ℕ → ℕ → ℕ → ℕ
+-- laid out by sizes and counts: 1, 2, 3, 5, then 6, 7, 8, 16. An accepted layout's record is a layout's, `true`: no 9 is given
+abbrev pub refusalBySizes : List ℕ → ℕ → ℕ → ℕ → List Float → ℕ → ℕ
 refusalBySizes sizes n m table inputs room = orElse (laidOf sizes n m .refusal) (refusal true (laidOf sizes n m .lut) table inputs room)
 
 -- what a lookup by sizes owes
 pub record LookedBySizes (sizes : List ℕ) (n m : ℕ) (table inputs old : List Float) (r : ℕ) (now : List Float) : Type 0 where
-  pub number : r ≡ refusalBySizes sizes n m (length table) (length inputs) (length old)
-  pub entries : now ≡ left (refusalBySizes sizes n m (length table) (length inputs) (length old)) (answerAt (laidOf sizes n m .lut) table inputs) m old
+  pub number : r ≡ refusalBySizes sizes n m (length table) inputs (length old)
+  pub entries : now ≡ left (refusalBySizes sizes n m (length table) inputs (length old)) (answerAt (laidOf sizes n m .lut) table inputs) m old

@@ -1,13 +1,14 @@
 // The answers of four and more inks, all m outputs at a time.
 use crate::few;
 use crate::place;
+use cell::Found;
 ghost use mathlib.Core.Path.{_≡_};
 ghost use Prim.Native.Nat.{_+_, _-_, _≤_, max};
 ghost use lib.Ieee.{nan};
 ghost use lib.ListN.{length, getD, drop};
 ghost use Rattle.binary32.specs.Blend.{lerp};
 ghost use Rattle.lists.specs.Buffer.{written};
-ghost use Rattle.lookup.specs.Places.{cellsAt, furtherInks, reach, planned, above, Inside, Narrow};
+ghost use Rattle.lookup.specs.Places.{cellsAt, furtherInks, reach, planned, above, Inside, Narrow, NoNans, Settled};
 
 // Each of the first m answers becomes the value between it and the upper one.
 fn fold(out: &mut [f32], upper: &[f32], m: usize, t: f32)
@@ -75,7 +76,7 @@ fn blend(
     fold(out, &upper, m, t);
 }
 
-// Four and more inks, from the plan and the weights of the first three.
+// Four and more inks, from the plan and the weights of the first three, or 16 for a NaN input among the others.
 pub(crate) fn more(
     table: &[f32],
     plan: &[usize; 7],
@@ -85,22 +86,30 @@ pub(crate) fn more(
     inputs: &[f32],
     m: usize,
     out: &mut [f32],
-)
+) -> u32
     requires count { ⌜ (4 ≤ length (now inputs)) × (length (now inputs) ≤ 15) × (m ≤ 15) ⌝ }
     requires { ⌜ Narrow (now filling) (now sizes) (length (now inputs)) ⌝ }
+    requires { ⌜ NoNans (now inputs) 3 ⌝ }
     requires inside { ⌜ Inside (now plan) (reach (furtherInks (now filling) (now sizes) (now inputs) (length (now inputs) - 3)) + m) (length (now table)) ⌝ }
     requires room { ⌜ m ≤ length (now out) ⌝ }
-    ensures { λ _. ⌜ now (out .exit) ≡ written (λ o. above (planned (now (plan .entry)) (now (r .entry)) o) (furtherInks (now (filling .entry)) (now (sizes .entry)) (now (inputs .entry)) (length (now (inputs .entry)) - 3)) (now (table .entry))) m (now (out .entry)) ⌝ }
+    ensures { λ k. ⌜ Settled (λ o. above (planned (now (plan .entry)) (now (r .entry)) o) (furtherInks (now (filling .entry)) (now (sizes .entry)) (now (inputs .entry)) (length (now (inputs .entry)) - 3)) (now (table .entry))) m (now (inputs .entry)) (now (out .entry)) k (now (out .exit)) ⌝ }
 {
     let k = inputs.len() - 3;
     if k == 1 {
-        let h = place::placed(filling, sizes, inputs, 3);
+        let of = place::placed(filling, sizes, inputs, 3);
+        let Found::At(h) = of else {
+            return 16;
+        };
         four(table, plan, r, h.x, h.x_n, h.w, m, out);
-        return;
+        return 0;
     }
     let mut low = [0usize; 12];
     let mut high = [0usize; 12];
     let mut w = [0.0f32; 12];
-    place::place(filling, sizes, inputs, k, &mut low, &mut high, &mut w);
+    let refusal = place::place(filling, sizes, inputs, k, &mut low, &mut high, &mut w);
+    if refusal != 0 {
+        return refusal;
+    }
     blend(table, plan, r, &low, &high, &w, k, m, out);
+    0
 }

@@ -4,16 +4,17 @@ mod few;
 mod place;
 mod plan;
 
+use cell::Found;
 use layout::MultidimensionalLut;
 ghost use mathlib.Core.Path.{_≡_};
 ghost use Prim.Native.Nat.{_*_, _≤_};
 ghost use lib.ListN.{length};
 ghost use Rattle.lists.specs.Lists.{lastFirst, product};
-ghost use Rattle.lists.specs.Buffer.{written};
-ghost use Rattle.lookup.specs.Places.{answerIn, Promised, Answered};
+ghost use Rattle.lookup.specs.Places.{answerIn, Promised, Settled, Answered};
 ghost use Rattle.lookup.specs.Table.{Looked, LookedBySizes};
 
-// The m answers, in a grid whose sizes and filling sizes are lent.
+// The m answers, in a grid whose sizes and filling sizes are lent, or 16 for a NaN input: no answer is written before
+// every input is a cell.
 fn write(
     filling: &[u32; 16],
     sizes: &[u8; 16],
@@ -21,34 +22,44 @@ fn write(
     table: &[f32],
     inputs: &[f32],
     answer: &mut [f32],
-)
+) -> u32
     requires { ⌜ Promised (now filling) (now sizes) (length (now inputs)) m ⌝ }
     requires { ⌜ product (lastFirst (length (now inputs)) (now sizes)) * m ≤ length (now table) ⌝ }
     requires room { ⌜ m ≤ length (now answer) ⌝ }
-    ensures { λ _. ⌜ now (answer .exit) ≡ written (answerIn (lastFirst (length (now (inputs .entry))) (now (sizes .entry))) m (now (table .entry)) (now (inputs .entry))) m (now (answer .entry)) ⌝ }
+    ensures { λ r. ⌜ Settled (answerIn (lastFirst (length (now (inputs .entry))) (now (sizes .entry))) m (now (table .entry)) (now (inputs .entry))) m (now (inputs .entry)) (now (answer .entry)) r (now (answer .exit)) ⌝ }
 {
     let n = inputs.len();
-    let c = place::placed(filling, sizes, inputs, 0);
+    let first = place::placed(filling, sizes, inputs, 0);
+    let Found::At(c) = first else {
+        return 16;
+    };
     if n == 1 {
         few::one(table, c, m, answer);
-        return;
+        return 0;
     }
-    let d = place::placed(filling, sizes, inputs, 1);
+    let second = place::placed(filling, sizes, inputs, 1);
+    let Found::At(d) = second else {
+        return 16;
+    };
     if n == 2 {
         few::two(table, c, d, m, answer);
-        return;
+        return 0;
     }
-    let e = place::placed(filling, sizes, inputs, 2);
+    let third = place::placed(filling, sizes, inputs, 2);
+    let Found::At(e) = third else {
+        return 16;
+    };
     let plan = plan::plan_of(c, d, e);
     let r = [c.w, d.w, e.w];
     if n == 3 {
         few::three(table, &plan, &r, m, answer);
-        return;
+        return 0;
     }
-    blend::more(table, &plan, &r, filling, sizes, inputs, m, answer);
+    blend::more(table, &plan, &r, filling, sizes, inputs, m, answer)
 }
 
-// After an accepted layout: 6 a short table, 7 the number of inputs, 8 a short answer buffer, and on 0 the answers.
+// After an accepted layout: 6 a short table, 7 the number of inputs, 8 a short answer buffer, 16 a NaN input, and on 0
+// the answers.
 fn answered(
     filling: &[u32; 16],
     sizes: &[u8; 16],
@@ -69,8 +80,7 @@ fn answered(
     if answer.len() < m {
         return 8;
     }
-    write(filling, sizes, m, table, inputs, answer);
-    0
+    write(filling, sizes, m, table, inputs, answer)
 }
 
 // The lookup: its number, and on 0 the m answers in the first entries of `answer`.
@@ -87,7 +97,7 @@ pub fn lookup(lut: MultidimensionalLut, table: &[f32], inputs: &[f32], answer: &
     answered(&filling, &sizes, n, m, table, inputs, answer)
 }
 
-// Lays out, then looks up: 1, 2, 3, 5, then 6, 7, 8. No record is made, so there is none to test.
+// Lays out, then looks up: 1, 2, 3, 5, then 6, 7, 8, 16. No record is made, so there is none to test.
 pub fn lookup_by_sizes(
     sizes: &[u8; 16],
     n: usize,

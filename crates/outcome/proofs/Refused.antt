@@ -15,10 +15,14 @@ pub neither : (k next : ℕ) → orElse k next ≡ 0 → (k ≡ 0) × (next ≡ 
 neither zero next h = (refl, h)
 neither (suc k) next h = absurd (suc-ne-zero k h)
 
+-- a test that did not refuse by its number k, where the number in the end is j
+pub passed-to : (j : ℕ) (b : Bool) (k r : ℕ) → (k ≡ j → ⊥) → cond b k r ≡ j → (b ≡ false) × (r ≡ j)
+passed-to j true k r other h = absurd (other h)
+passed-to j false k r other h = (refl, h)
+
 -- a test that did not refuse
 pub passed : (b : Bool) (k r : ℕ) → (k ≡ 0 → ⊥) → cond b k r ≡ 0 → (b ≡ false) × (r ≡ 0)
-passed true k r some h = absurd (some h)
-passed false k r some h = (refl, h)
+passed = passed-to 0
 
 module _ {A : Type 0} where
   pub kept : {r : ℕ} (k : ℕ) (new old : A) → (r ≡ 0 → ⊥) → r ≡ k → old ≡ onDone k new old

@@ -2,17 +2,21 @@
 -- Assumes nothing.
 use Prim.Native.Nat.{ℕ, zero, suc, _≤_, _<_}
 use mathlib.Core.Path.{_≡_, refl, sym, _∙_, ap, subst⁻¹}
-use mathlib.Core.Bool.{true}
+use mathlib.Core.Bool.{true, false}
 use mathlib.Core.List.{List, [], _∷_, _++_, map}
 use native.Mathlib.Nat.{zero-add}
 use native.Mathlib.Omega.{arith}
-use lib.Ieee.{Float, nan}
+use lib.Dec.{T, ltb, ltb→lt, lit≤, lit<}
+use lib.Pow.{areBytes}
+use lib.Ieee.{Float, nan, isNan}
+use lib.Ieee.Fits.{and-l, and-r}
 use lib.ListN.{length, getD, take, drop, replicate, length-append, length-take, length-drop}
 use lib.Seq.{length-take-le, getD-take, ext-getD, sets-eq}
 use borrow.Author.Tests.{lt-ltb}
 use Rattle.outcome.specs.Outcome.{orElse}
 use Rattle.outcome.proofs.Refused.{refused-first}
-use Rattle.lists.specs.Lists.{tabulate}
+use Rattle.binary32.proofs.Ranges.{share-number, unit-share}
+use Rattle.lists.specs.Lists.{tabulate, some}
 use Rattle.lists.specs.Buffer.{written, left}
 use Rattle.lists.proofs.Lists.{length-tabulate, getD-tabulate}
 use Rattle.lists.proofs.Buffer.{length-written, written-at}
@@ -27,6 +31,14 @@ use Rattle.probing.specs.Put.{Put}
 use Rattle.probing.specs.Probe.{limit, codeOf, shown, probeOutput, Probed}
 use Rattle.probing.proofs.Stores.{put-length}
 use Rattle.probing.proofs.Digits.{length-head, length-spaced}
+
+-- no ink code is NaN, so the probe never prints 16
+pub codes-numbers : (codes : List ℕ) → T (areBytes codes) → some isNan (map codeOf codes) ≡ false
+unfolding some
+codes-numbers [] t = refl
+codes-numbers (v ∷ vs) t =
+    let byte : v < 256 = ltb→lt v 256 (and-l (ltb v 256) (areBytes vs) t) in
+    rw (share-number (codeOf v) (unit-share 255 v (lit< tt) (lit≤ tt) (omega arith))) (codes-numbers vs (and-r (ltb v 256) (areBytes vs) t))
 
 -- a refusal is reported alone
 refusal-alone : (k : ℕ) (xs : List Float) → (k ≡ 0 → ⊥) → report k xs ≡ report k []
@@ -94,8 +106,8 @@ module _ {input bytes : List ℕ} {g n m : ℕ} {laid : Laid} (asked : Asked inp
 
     module _ {rest codes table : List ℕ} (rest-is : rest ≡ drop 3 bytes) (codes-are : codes ≡ take n rest) (table-is : table ≡ drop n rest)
         {old now : List Float} {r : ℕ} (room : length old ≡ 15) (looked : Looked (laid .lut) (map codeOf table) (map codeOf codes) old r now) where
-      number : r ≡ refusal true (laid .lut) (length (map codeOf table)) (length (map codeOf codes)) 15
-      number = looked .number ∙ (λ i. refusal (looked .decides .found is-layout i) (laid .lut) (length (map codeOf table)) (length (map codeOf codes)) (room i))
+      number : r ≡ refusal true (laid .lut) (length (map codeOf table)) (map codeOf codes) 15
+      number = looked .number ∙ (λ i. refusal (looked .decides .found is-layout i) (laid .lut) (length (map codeOf table)) (map codeOf codes) (room i))
 
       answers : ℕ → Float
       answers = answerAt (laid .lut) (map codeOf table) (map codeOf codes)

@@ -24,7 +24,7 @@ codeOf v = unitOf 255 v
 -- the report of a lookup with an answer buffer of 15 places, where the layout is accepted
 unfoldable pub shown : Laid → List Float → List Float → List ℕ
 shown laid codes table =
-    report (orElse (laid .refusal) (refusal true (laid .lut) (length table) (length codes) 15))
+    report (orElse (laid .refusal) (refusal true (laid .lut) (length table) codes 15))
     (tabulate (laid .lut .«output_inks») (answerAt (laid .lut) table codes))
 
 -- g, n, m (a missing one counts as 0), n ink codes, then table bytes. All sixteen sizes are g.

@@ -2,13 +2,13 @@
 -- Assumes nothing.
 use Prim.Native.Nat.{ℕ, zero, suc, _+_, _*_, _≤_, _<_}
 use mathlib.Core.Path.{_≡_, refl, ap, ap₂, _∙_}
-use mathlib.Core.Bool.{Bool, true}
+use mathlib.Core.Bool.{Bool, true, false}
 use mathlib.Core.List.{List, [], _∷_}
 use native.Mathlib.Nat.{le-of-suc-le-suc, not-suc-le-zero, mul-left-comm}
 use native.Mathlib.Omega.{arith}
 use lib.ListN.{length, getD}
-use Rattle.lists.specs.Lists.{every, lastFirst, product}
-use Rattle.lists.proofs.Lists.{and-true, every-head, every-rest, last-first-same}
+use Rattle.lists.specs.Lists.{every, some, lastFirst, product}
+use Rattle.lists.proofs.Lists.{and-true, every-head, every-rest, neither-of, last-first-same}
 use Rattle.slab.specs.Slab.{insert, without}
 
 module _ {A : Type 0} where
@@ -39,6 +39,12 @@ module _ {A : Type 0} where
   insert-without p [] d h = absurd (not-suc-le-zero h)
   insert-without zero (x ∷ xs) d h = refl
   insert-without (suc p) (x ∷ xs) d h = ap (λ (l : List A). x ∷ l) (insert-without p xs d (le-of-suc-le-suc h))
+
+  pub some-without : (p : A → Bool) (xs : List A) (i : ℕ) → some p xs ≡ false → some p (without i xs) ≡ false
+  unfolding some without
+  some-without p [] i h = refl
+  some-without p (x ∷ xs) zero h = neither-of (p x) (some p xs) h .1
+  some-without p (x ∷ xs) (suc i) h = let none = neither-of (p x) (some p xs) h in rw (none .0) (some-without p xs i (none .1))
 
 -- ---- lists of numbers
 

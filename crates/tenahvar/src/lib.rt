@@ -57,7 +57,7 @@ fn laid_out(sizes: [u8; 16], n: usize, m: usize) -> Laid
     layout::layout(sizes, n, m)
 }
 
-// Lays out, then looks up: refusals 1, 2, 3, 5, then 6, 7, 8. On 0 the first m entries of `answer` are set.
+// Lays out, then looks up: refusals 1, 2, 3, 5, then 6, 7, 8, 16. On 0 the first m entries of `answer` are set.
 #[no_mangle]
 pub extern "C" fn tenahvar_lookup(
     sizes: &[u8; 16],

@@ -13,12 +13,11 @@ use mir.Syntax.{w64}
 use mir.Val.{Fits}
 use borrow.Author.Needs.{fits-under}
 use Rattle.lists.specs.Lists.{lastFirst, product}
-use Rattle.lists.specs.Buffer.{written}
+use Rattle.lists.proofs.Buffer.{length-left}
 use Rattle.layout.specs.Lengths.{lengthRefusal}
 use Rattle.layout.proofs.Lengths.{Passed}
-use Rattle.lookup.specs.Places.{answerIn, Promised}
-use Rattle.lookup.proofs.Refusals.{answered-refused, answered-passed, answered-short, answered-done}
-use Rattle.lookup.proofs.Turns.{same-room}
+use Rattle.lookup.specs.Places.{answerIn, Promised, Settled}
+use Rattle.lookup.proofs.Refusals.{answered-refused, answered-passed, answered-short, answered-blended}
 use Rattle.lookup.proofs.answered.Statement.{statement}
 use Rattle.lookup.proofs.answered.Tie as tie
 
@@ -48,12 +47,12 @@ module _ (c : tie.After-length-refusal) where
     enough : product (lastFirst (length (start .args .inputs .now)) (start .args .sizes .now)) * start .args .m ≤ length (start .args .table .now)
     enough = subst (λ (k : ℕ). product (lastFirst k (start .args .sizes .now)) * start .args .m ≤ length (start .args .table .now)) (sym (ok .as-many)) (ok .enough)
 
-    done : (now : List Float)
-        → now ≡ written (answerIn (lastFirst (length (start .args .inputs .now)) (start .args .sizes .now)) (start .args .m) (start .args .table .now) (start .args .inputs .now)) (start .args .m) (start .args .answer .now)
-        → now ≡ written (answerIn gs (start .args .m) (start .args .table .now) (start .args .inputs .now)) (start .args .m) (start .args .answer .now)
-    done now e =
+    blended : (r : ℕ) (now : List Float)
+        → Settled (answerIn (lastFirst (length (start .args .inputs .now)) (start .args .sizes .now)) (start .args .m) (start .args .table .now) (start .args .inputs .now)) (start .args .m) (start .args .inputs .now) (start .args .answer .now) r now
+        → Settled (answerIn gs (start .args .m) (start .args .table .now) (start .args .inputs .now)) (start .args .m) (start .args .inputs .now) (start .args .answer .now) r now
+    blended r now e =
         subst
-        (λ (k : ℕ). now ≡ written (answerIn (lastFirst k (start .args .sizes .now)) (start .args .m) (start .args .table .now) (start .args .inputs .now)) (start .args .m) (start .args .answer .now))
+        (λ (k : ℕ). Settled (answerIn (lastFirst k (start .args .sizes .now)) (start .args .m) (start .args .table .now) (start .args .inputs .now)) (start .args .m) (start .args .inputs .now) (start .args .answer .now) r now)
         (ok .as-many)
         e
 
@@ -71,8 +70,8 @@ answered-spec =
     (λ c. let s = c .before .before .before .before .before .before .before .before in answered-short (gs (c .before .before)) (s .args .n) (s .args .m) (s .args .table .now) (s .args .inputs .now) (s .args .answer .now) _ (number (c .before .before)) (c .before .if1 .left) (c .if2 .taken))
     (λ c κs. let none = c .before .before .if1 .left in
     (laid (c .before .before .before) none, (enough (c .before .before .before) none, c .before .if2 .left)))
-    (λ c. same-room _ _ _ _ (c .before .before .write .ensures))
+    (λ c. ap length (c .before .before .write .ensures .entries) ∙ length-left (c .before .before .write .result) _ _ _)
     (λ c. let s = c .before .before .before .before .before .before .before .before .before .before .before .before in
     let here = c .before .before .before .before .before .before in
     let none = c .before .before .before .before .before .if1 .left in
-    answered-done (gs here) (s .args .n) (s .args .m) (s .args .table .now) (s .args .inputs .now) (s .args .answer .now) _ (number here) none (c .before .before .before .before .if2 .left) _ (done here none _ (c .before .before .write .ensures))))
+    answered-blended (gs here) (s .args .n) (s .args .m) (s .args .table .now) (s .args .inputs .now) (s .args .answer .now) _ (number here) none (c .before .before .before .before .if2 .left) _ _ (blended here none _ _ (c .before .before .write .ensures))))
