@@ -26,7 +26,7 @@ extern "C" {
 #define TENAHVAR_VERSION_MINOR 2
 #define TENAHVAR_VERSION_PATCH 0
 
-/* No call takes more bytes of stack. Measured on x86-64: 4,000 for a lookup of fifteen inks, at most 1,320 for any other call. */
+/* No call takes more bytes of stack. Measured on x86-64: 4,032 for a lookup of fifteen inks, at most 1,320 for any other call. */
 #define TENAHVAR_STACK 8192
 
 /* What a call answers. */
@@ -46,6 +46,7 @@ extern "C" {
 #define TENAHVAR_SHORT_ELEMENT 13  /* a CLUT element has under 20 bytes */
 #define TENAHVAR_PRECISION 14      /* the precision, the bytes of a value, is neither 1 nor 2 */
 #define TENAHVAR_SHORT_DATA 15     /* too little data: for the total of a CLUT element, or for the count of values */
+#define TENAHVAR_NAN_INPUT 16      /* an input of a lookup is a NaN */
 
 /* What a number says, in words for a log. A number that no function gives has a text too. */
 static inline const char *tenahvar_refusal_text(uint32_t number) {
@@ -65,6 +66,7 @@ static inline const char *tenahvar_refusal_text(uint32_t number) {
     case 13: return "the CLUT element has under 20 bytes";
     case 14: return "the precision is neither 1 nor 2";
     case 15: return "there is too little data";
+    case 16: return "an input is not a number";
     default: return "no refusal of this version";
     }
 }
@@ -81,7 +83,9 @@ uint32_t tenahvar_layout(const uint8_t sizes[16], size_t n, size_t m,
 /* The entries that a table needs: refusals 1, 2, 3, 5. On 0 *total is the product of the n sizes and m, at most 4,294,967,295. */
 uint32_t tenahvar_total(const uint8_t sizes[16], size_t n, size_t m, uint64_t *total);
 
-/* The colour at `inputs`: a layout's refusals, then 6, 7, 8. On 0 it sets the first m entries of `answer` and no others. */
+/* The colour at `inputs`: a layout's refusals, then 6, 7, 8, 16. On 0 it sets the first m entries of `answer` and no others.
+ * An input below 0 counts as 0 and one above 1 as 1, the infinities too. A NaN, as a broken sensor may give, is refusal 16, whatever its kind, sign and
+ * payload. Entries of the table may be anything. */
 uint32_t tenahvar_lookup(const uint8_t sizes[16], size_t n, size_t m,
                          const float *table, size_t table_length,
                          const float *inputs, size_t inputs_length,

@@ -22,6 +22,10 @@ pub trait Case: Sized {
     fn parted(&self) -> Option<bool> {
         None
     }
+    /// Of a call that is refused for a NaN among its inputs (E8), how many of these are quiet, and how many signalling.
+    fn nans(&self) -> [u64; 2] {
+        [0; 2]
+    }
     /// The sort of a call whose sizes in use are unequal (E5); none of every other call.
     fn unequal(&self) -> Option<Sort> {
         None
@@ -37,9 +41,11 @@ pub trait Case: Sized {
 /// The counts of a run. The first difference ends it.
 pub struct Run {
     counts: Vec<(&'static str, u64)>,
-    numbers: [u64; 16],
+    numbers: [u64; 17],
     /// How many calls demand 2 excepts, and in how many of them the crate's answers are others.
     pub excepted: [u64; 2],
+    /// How many quiet and signalling NaNs were among the inputs of calls that were refused for them.
+    nans: [u64; 2],
     /// Of each sort how many calls with unequal sizes are accepted, and how many refused.
     unequal: [[u64; 2]; 5],
     began: Instant,
@@ -47,7 +53,7 @@ pub struct Run {
 
 impl Run {
     pub fn new() -> Run {
-        Run { counts: Vec::new(), numbers: [0; 16], excepted: [0; 2], unequal: [[0; 2]; 5], began: Instant::now() }
+        Run { counts: Vec::new(), numbers: [0; 17], excepted: [0; 2], nans: [0; 2], unequal: [[0; 2]; 5], began: Instant::now() }
     }
 
     /// Opens a kind of calls; what is held from here on counts to it.
@@ -84,6 +90,9 @@ impl Run {
             self.excepted[0] += 1;
             self.excepted[1] += u64::from(parted);
         }
+        if number == 16 {
+            self.refused(0, case.nans());
+        }
         if case.difference().is_some() {
             self.fail(case);
         }
@@ -95,6 +104,15 @@ impl Run {
             count.1 += calls;
         }
         self.numbers[0] += calls;
+    }
+
+    /// Counts calls that were compared elsewhere and refused for a NaN, and the quiet and signalling ones among their inputs.
+    pub fn refused(&mut self, calls: u64, [quiet, signalling]: [u64; 2]) {
+        if let Some(count) = self.counts.last_mut() {
+            count.1 += calls;
+        }
+        self.numbers[16] += calls;
+        self.nans = [self.nans[0] + quiet, self.nans[1] + signalling];
     }
 
     #[cold]
@@ -109,13 +127,15 @@ impl Run {
         std::process::exit(1);
     }
 
-    /// Ends the run: how many calls gave each number, how many were excepted, how many had unequal sizes, and the sum.
+    /// Ends the run: how many calls gave each number, how many were excepted, how many had NaN inputs or unequal sizes, and the sum.
     pub fn end(&mut self) {
         self.close();
         let told: Vec<String> = self.numbers.iter().enumerate().filter(|(_, &count)| count > 0).map(|(k, count)| format!("{k}: {count}")).collect();
         println!("            by number: {}", told.join(", "));
         let [excepted, parted] = self.excepted;
         println!("            {excepted} calls are excepted from demand 2 (E4) and held to the definition; in {parted} of them the Rust text answers otherwise");
+        let [quiet, signalling] = self.nans;
+        println!("            {} calls are refused for a NaN input (E8), with {quiet} quiet and {signalling} signalling ones", self.numbers[16]);
         let [accepted, refused] = [0, 1].map(|k| (0..5).map(|sort| format!("{} {}", SORTS[sort], self.unequal[sort][k])).collect::<Vec<_>>().join(", "));
         println!("            with unequal sizes (E5), held to the definition over coordinates: {accepted}; and refused: {refused}");
         println!("{:>10}  calls compared, none different", self.counts.iter().map(|c| c.1).sum::<u64>());

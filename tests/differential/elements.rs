@@ -4,7 +4,7 @@ use crate::case::{sentinel, Run};
 use crate::cluts::{Clut, ReadLookup};
 use crate::grids::{equal, grid, laid, Sizes};
 use crate::limits::COUNTS;
-use crate::values::{any_bits, random_inputs, Rng};
+use crate::values::{any_bits, random_numbers, Rng};
 use oracle::expected;
 
 pub fn all(run: &mut Run, rng: &mut Rng, long: bool) {
@@ -127,7 +127,7 @@ fn damaged(rng: &mut Rng, sizes: Sizes) -> Clut {
 fn read_lookup(rng: &mut Rng, sizes: Sizes) -> ReadLookup {
     let clut = good(rng, &[30, 300, 1_000, 4_000], sizes);
     let mut inputs = vec![0.0; clut.n];
-    random_inputs(rng, &clut.element[..clut.n], &mut inputs);
+    random_numbers(rng, &clut.element[..clut.n], &mut inputs);
     ReadLookup { clut, inputs }
 }
 

@@ -1,9 +1,9 @@
 //! Lookups over whole sets of special inputs, and just under powers of two, where the rounded p+1 skips a node.
 
-use crate::case::Run;
+use crate::case::{Case, Run};
 use crate::grids::equal;
 use crate::lookups::Lookup;
-use crate::values::{fill_table, random_inputs, skipping, special_inputs, Rng};
+use crate::values::{fill_table, random_numbers, skipping, special_inputs, Rng, NANS};
 use oracle::expected;
 
 /// A table of shares of 0 to 1, and one of a random sort.
@@ -28,9 +28,10 @@ pub fn every(lists: &[Vec<f32>], mut call: impl FnMut(&[f32])) {
     }
 }
 
-/// Both tables of a grid, and in them every choice of special inputs of its inks.
+/// Both tables of a grid, and in them every choice of special inputs of its inks, a signalling NaN among them.
 pub fn special(run: &mut Run, rng: &mut Rng, sizes: &[u8], m: usize) {
-    let lists: Vec<Vec<f32>> = sizes.iter().map(|&size| special_inputs(size)).collect();
+    let signalling = f32::from_bits(NANS[4]);
+    let lists: Vec<Vec<f32>> = sizes.iter().map(|&size| [special_inputs(size), vec![signalling]].concat()).collect();
     for table in tables(rng, sizes, m) {
         every(&lists, |inputs| run.hold(Lookup::good(sizes, m, &table, inputs)));
     }
@@ -88,7 +89,7 @@ pub fn each_skip(run: &mut Run, rng: &mut Rng, sizes: &[u8], table: &[f32]) {
     let mut inputs = vec![0.0; sizes.len()];
     for (ink, product) in (0..sizes.len()).flat_map(|ink| skipping(sizes[ink]).into_iter().map(move |product| (ink, product))) {
         for _ in 0..if sizes.len() < 9 { 12 } else { 2 } {
-            random_inputs(rng, sizes, &mut inputs);
+            random_numbers(rng, sizes, &mut inputs);
             inputs[ink] = product;
             run.hold(Lookup::good(sizes, 1, table, &inputs));
         }
@@ -96,6 +97,7 @@ pub fn each_skip(run: &mut Run, rng: &mut Rng, sizes: &[u8], table: &[f32]) {
 }
 
 /// Document 01's lookups with checked answers: both oracles are held to them too. In case 12 the crate's text still gives what document 02 changed (E4).
+/// P6's NaN has no answer: it is refusal 16 (E8).
 pub fn checked(run: &mut Run) {
     run.kind("document 01's checked lookups (P6, P7, P8, and 12 with the answer 0 of E4)");
     let mut corner = vec![0.0; 8];
@@ -103,9 +105,11 @@ pub fn checked(run: &mut Run) {
     let mut case_12 = vec![0.0; 243];
     case_12[2] = 1.0;
     let ink_5 = f32::from_bits(0x3EFF_FFFF);
-    let cases: [(u8, &[f32], &[f32], u32); 6] = [
+    let nan = Lookup::good(&[2], 1, &[0.0, 1.0][..], &[f32::NAN]);
+    assert_eq!(nan.number(), 16, "the reading of document 02 does not refuse P6's NaN");
+    run.hold(nan);
+    let cases: [(u8, &[f32], &[f32], u32); 5] = [
         (2, &[0.0, 1.0], &[0.25], 0x3E80_0000),
-        (2, &[0.0, 1.0], &[f32::NAN], 0),
         (2, &[0.0, 1.0], &[2.0], 0x3F80_0000),
         (2, &[0.0, 1.0, 2.0, 3.0], &[0.5, 0.25], 0x3FA0_0000),
         (2, &corner, &[0.5, 0.25, 0.75], 0x3E80_0000),
@@ -117,20 +121,5 @@ pub fn checked(run: &mut Run) {
         let rust_bits = if n == 5 { 0x3F7F_FFFF } else { bits };
         assert_eq!(answers.map(|a| a[0].to_bits()), [rust_bits, bits], "an oracle itself does not give the checked answer");
         run.hold(Lookup::good(&equal(g, n), 1, table, inputs));
-    }
-}
-
-/// Signalling NaN inputs, on machines where they are not left out.
-pub fn signalling(run: &mut Run, rng: &mut Rng) {
-    run.kind("signalling NaN inputs");
-    let grids = (1..=8).flat_map(|n| (1..=3).map(move |g| equal(g, n)).chain([(0..n).map(|ink| 1 + ink as u8 % 3).collect()]));
-    for sizes in grids {
-        let [table, _] = tables(rng, &sizes, 2);
-        let mut inputs = vec![0.0; sizes.len()];
-        for i in 0..200 {
-            random_inputs(rng, &sizes, &mut inputs);
-            inputs[i % sizes.len()] = f32::from_bits(rng.pick(&[0x7F80_0001, 0x7FBF_FFFF, 0xFF80_0001, 0xFFA5_A5A5]));
-            run.hold(Lookup::good(&sizes, 2, &table, &inputs));
-        }
     }
 }

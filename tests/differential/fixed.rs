@@ -3,7 +3,7 @@
 use crate::case::{are_unequal, compare, guarded, number, numbers, Case, Run, Sort, GUARD};
 use crate::grids::{of_counts, padded, Sizes};
 use crate::library;
-use crate::values::{after, askable, random_input, random_inputs, with_products, Rng};
+use crate::values::{after, numeric, random_input, random_numbers, with_products, Rng};
 use oracle::{expected, slab};
 use std::borrow::Cow;
 
@@ -108,11 +108,10 @@ fn on_line(rng: &mut Rng, g: u8, k: usize) -> Option<f32> {
     let last = g as usize - 1;
     let clipped = rng.one_in(2);
     if last == 0 {
-        return Some(random_input(rng, g));
+        return Some(numeric(random_input(rng, g)));
     }
     if k == 0 && clipped {
-        let bits = rng.pick(&[0x8000_0000, 0x8000_0001, 0xBF80_0000, 0xFF80_0000, 0x7FC0_0000, 0xFFC0_1234, 0x7F80_0001]);
-        return Some(askable(f32::from_bits(bits)));
+        return Some(f32::from_bits(rng.pick(&[0x8000_0000, 0x8000_0001, 0xBF80_0000, 0xFF80_0000])));
     }
     if k == last && clipped {
         return Some(rng.pick(&[after(1.0), 2.0, f32::MAX, f32::INFINITY]));
@@ -149,7 +148,7 @@ fn on_lines(run: &mut Run, rng: &mut Rng, tables: usize, sizes: Sizes) {
             let k = rng.below(used[j - 1] as usize);
             let Some(x) = on_line(rng, used[j - 1], k) else { continue };
             let mut inputs = vec![0.0; n];
-            random_inputs(rng, &used, &mut inputs);
+            random_numbers(rng, &used, &mut inputs);
             inputs[j - 1] = x;
             run.hold(Fixed { sizes: used.clone(), m, table: (&table).into(), j, k, inputs, longer: rng.pick(&[0, 0, 1, 9]) });
         }

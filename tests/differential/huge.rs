@@ -5,7 +5,7 @@
 use crate::case::Run;
 use crate::grids::{equal, padded};
 use crate::lookups::Lookup;
-use crate::values::{before, random_inputs, skipping, Rng};
+use crate::values::{before, random_numbers, skipping, Rng};
 use oracle::{definition::product, expected, skips};
 use std::ffi::{c_char, c_void};
 use std::fs::File;
@@ -83,7 +83,7 @@ fn within(run: &mut Run, rng: &mut Rng, sizes: &[u8], m: usize, long: bool) {
     };
     let mut inputs = vec![0.0; n];
     for i in 0..if long { 400 } else { 40 } {
-        random_inputs(rng, sizes, &mut inputs);
+        random_numbers(rng, sizes, &mut inputs);
         let ink = n - 1 - i / 4 % 2;
         match i % 4 {
             0 => inputs.fill(1.0),

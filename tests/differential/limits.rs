@@ -1,9 +1,9 @@
-//! Lookups at and around every limit, alone and two at a time, so that the order of the refusals shows.
+//! Lookups at and around every limit, alone and two at a time, without a NaN input and with one, so that the order of the refusals shows.
 
 use crate::case::Run;
 use crate::grids::{equal, padded};
 use crate::lookups::Lookup;
-use crate::values::{fill_table, random_inputs, Rng};
+use crate::values::{fill_table, random_numbers, Rng, NANS};
 use oracle::expected;
 
 /// Counts that are outside 1..15, or would be inside if they were cut to fewer bits.
@@ -53,7 +53,7 @@ fn around(run: &mut Run, rng: &mut Rng, used: &[u8], m: usize) {
     let mut table = vec![0.0; total + 1];
     fill_table(rng, &mut table);
     let mut inputs = vec![0.0; 17];
-    random_inputs(rng, used, &mut inputs);
+    random_numbers(rng, used, &mut inputs);
     let ns: Vec<usize> = COUNTS.iter().copied().chain([n, n - 1, n + 1]).collect();
     let ms: Vec<usize> = COUNTS.iter().copied().chain([m, m - 1, m + 1]).collect();
     let whole = (n, m, total);
@@ -69,14 +69,18 @@ fn around(run: &mut Run, rng: &mut Rng, used: &[u8], m: usize) {
     }
 }
 
-/// One layout with every choice of short, exact and long table, inputs and buffer.
+/// One layout with every choice of short, exact and long table, inputs and buffer; no NaN among the inputs, one at the first or the last of the
+/// inks, and one behind them.
 fn lent(run: &mut Run, whole: (usize, usize, usize), sizes: [u8; 16], n: usize, m: usize, table: &[f32], inputs: &[f32]) {
     let (inks, outputs, total) = whole;
     for table_len in [total - 1, total, total + 1, 0] {
         for inputs_len in [inks - 1, inks, inks + 1, 0, 17] {
             for answer in [outputs - 1, outputs, outputs + 1, 0] {
-                let (table, inputs) = ((&table[..table_len]).into(), inputs[..inputs_len].to_vec());
-                run.hold(Lookup { sizes, n, m, table, inputs, answer });
+                for nan in [usize::MAX, 0, inks - 1, inks] {
+                    let (table, mut inputs) = ((&table[..table_len]).into(), inputs[..inputs_len].to_vec());
+                    inputs.iter_mut().skip(nan).take(1).for_each(|x| *x = f32::from_bits(NANS[(table_len + inputs_len + answer) % NANS.len()]));
+                    run.hold(Lookup { sizes, n, m, table, inputs, answer });
+                }
             }
         }
     }

@@ -3,7 +3,7 @@
 use crate::case::Run;
 use crate::library;
 use crate::lookups::Lookup;
-use crate::values::{random_inputs, Rng};
+use crate::values::{random_numbers, Rng};
 use oracle::expected;
 
 /// The input whose quotient is the line, and as many floats as `reach` below and above it.
@@ -46,7 +46,7 @@ fn each_line(run: &mut Run, rng: &mut Rng, sizes: &[u8]) {
     let (table, mut inputs) = (table(rng, sizes), vec![0.0; sizes.len()]);
     for (ink, line) in (0..sizes.len()).flat_map(|ink| (0..sizes[ink]).map(move |line| (ink, line))) {
         for x in (0..20).flat_map(|_| around(sizes[ink], line, 2)) {
-            random_inputs(rng, sizes, &mut inputs);
+            random_numbers(rng, sizes, &mut inputs);
             inputs[ink] = x;
             run.hold(Lookup::good(sizes, 1, &table, &inputs));
         }

@@ -47,11 +47,16 @@ impl<'a> Lookup<'a> {
 
 impl Case for Lookup<'_> {
     fn number(&self) -> u32 {
-        expected::lookup(&self.sizes, self.n, self.m, self.table.len(), self.inputs.len(), self.answer)
+        expected::lookup(&self.sizes, self.n, self.m, self.table.len(), &self.inputs, self.answer)
     }
 
     fn parted(&self) -> Option<bool> {
         (self.number() == 0).then(|| oracle::parted(self.used(), self.m, &self.table, &self.inputs)).flatten()
+    }
+
+    fn nans(&self) -> [u64; 2] {
+        let nans = |quiet: bool| self.inputs.iter().filter(|&&x| expected::is_nan(x) && (x.to_bits() & 0x0040_0000 != 0) == quiet).count() as u64;
+        [nans(true), nans(false)]
     }
 
     fn unequal(&self) -> Option<Sort> {

@@ -20,6 +20,7 @@ mod library;
 mod limits;
 mod lines;
 mod lookups;
+mod nans;
 mod nodes;
 mod random;
 mod skipped;
@@ -33,9 +34,6 @@ mod values;
 fn announce(count: u64, seed: u64, long: bool) {
     println!("differential: {count} random lookups, seed {seed}{}", if long { ", long" } else { "" });
     println!("An input of -0.0 is handed to the Rust text as +0.0: Rust leaves the sign of its clip open.");
-    if values::SIGNALLING_LEFT_OUT {
-        println!("Signalling NaN inputs are left out on Arm: the compiled Rust clips them to 1 there, document 01 to +0.0.");
-    }
 }
 
 fn main() {
@@ -58,9 +56,7 @@ fn main() {
     exhaustive::skips(run, rng, long);
     skipped::examples(run);
     skipped::lookups(run, rng, long);
-    if !values::SIGNALLING_LEFT_OUT {
-        exhaustive::signalling(run, rng);
-    }
+    nans::all(run, rng);
     unequal::lookups(run, rng, long);
     random::all(run, rng, count);
     cubes::cubes(run, rng, count / 4);

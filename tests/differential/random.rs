@@ -3,10 +3,10 @@
 use crate::case::Run;
 use crate::grids::{grid, laid, Sizes};
 use crate::lookups::Lookup;
-use crate::values::{fill_table, random_inputs, Rng};
+use crate::values::{fill_table, random_inputs, random_nan, Rng};
 use oracle::expected;
 
-/// A random accepted call: sizes after the first n are anything, the table and the buffer may be longer than needed.
+/// A random call that is accepted unless an input is a NaN: sizes after the first n are anything, the table and the buffer may be longer than needed.
 pub fn good(rng: &mut Rng, sizes: Sizes) -> Lookup<'static> {
     let bound = rng.pick(&[30, 100, 100, 300, 300, 1_000, 4_000]);
     let (used, m) = grid(rng, bound, sizes);
@@ -63,7 +63,7 @@ fn damage(rng: &mut Rng, call: &mut Lookup) {
         4 => rng.next() as usize,
         _ => rng.below(18),
     };
-    match rng.below(6) {
+    match rng.below(7) {
         0 => call.n = other(rng, call.n),
         1 => call.m = other(rng, call.m),
         2 => {
@@ -77,6 +77,10 @@ fn damage(rng: &mut Rng, call: &mut Lookup) {
         4 => {
             let len = rng.pick(&[call.inputs.len().wrapping_sub(1), call.inputs.len() + 1, 0]).min(20);
             call.inputs.resize(len, 0.25);
+        }
+        5 if !call.inputs.is_empty() => {
+            let place = rng.below(call.inputs.len());
+            call.inputs[place] = random_nan(rng);
         }
         _ => call.answer = rng.pick(&[call.m.min(15).saturating_sub(1), 0, call.m.min(15) + 3]),
     }

@@ -11,7 +11,7 @@ use crate::grids::{equal, Sizes};
 use crate::huge::{around, Zeros};
 use crate::lookups::Lookup;
 use crate::random::good;
-use crate::values::{after, before, random_inputs, with_products, Rng};
+use crate::values::{after, before, random_numbers, with_products, Rng};
 use oracle::{definition::product, expected};
 use std::time::Instant;
 
@@ -53,7 +53,7 @@ fn agrees(rng: &mut Rng, sizes: Sizes, told: &str, rust: impl Fn(&Lookup) -> Vec
     while done.iter().sum::<usize>() < 100_000 || done[fewest..].contains(&0) {
         let mut call = good(rng, sizes);
         for _ in 0..8 {
-            random_inputs(rng, &call.sizes[..call.n], &mut call.inputs);
+            random_numbers(rng, &call.sizes[..call.n], &mut call.inputs);
             if !call.inputs.iter().zip(&call.sizes).skip(4).any(|(&x, &size)| oracle::skips(size, x)) {
                 let defined = oracle::definition::lookup(call.used(), call.m, &call.table, &call.inputs);
                 let rust = rust(&call);
@@ -127,7 +127,7 @@ fn each(run: &mut Run, rng: &mut Rng, sizes: &[u8], m: usize, table: &mut [f32],
     let (mut calls, n) = (0, sizes.len());
     let mut inputs = vec![0.0; n];
     for (ink, two) in (4..n).flat_map(|ink| [(ink, false), (ink, true)]).flat_map(|choice| (0..times).map(move |_| choice)) {
-        random_inputs(rng, sizes, &mut inputs);
+        random_numbers(rng, sizes, &mut inputs);
         inputs[ink] = x;
         if two && n > 5 {
             inputs[4 + (ink - 4 + rng.within(1, n - 5)) % (n - 4)] = x;

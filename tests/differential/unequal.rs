@@ -4,7 +4,7 @@ use crate::case::Run;
 use crate::exhaustive::{each_skip, special, tables};
 use crate::grids::{orders, padded};
 use crate::lookups::Lookup;
-use crate::values::{random_inputs, skipping, Rng};
+use crate::values::{random_numbers, skipping, Rng};
 use oracle::expected;
 
 pub fn lookups(run: &mut Run, rng: &mut Rng, long: bool) {
@@ -26,7 +26,7 @@ pub fn lookups(run: &mut Run, rng: &mut Rng, long: bool) {
         let mut inputs = vec![0.0; order.len()];
         for table in tables(rng, &order, 1) {
             for _ in 0..if long { 200 } else { 20 } {
-                random_inputs(rng, &order, &mut inputs);
+                random_numbers(rng, &order, &mut inputs);
                 run.hold(Lookup::good(&order, 1, &table, &inputs));
             }
         }

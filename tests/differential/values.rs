@@ -32,16 +32,6 @@ impl Rng {
     }
 }
 
-/// The compiled Rust clips a signalling NaN to 1 on Arm: the processor's maximum answers a quiet NaN there, and its
-/// minimum then takes the other operand. A compiler may make the same maximum of `if x > 0.0 { x } else { 0.0 }`, so the
-/// library's native archive may answer NaN. Neither says anything about document 01: on Arm they are left out.
-pub const SIGNALLING_LEFT_OUT: bool = cfg!(target_arch = "aarch64");
-
-/// An input that the oracle may be asked about.
-pub fn askable(x: f32) -> f32 {
-    if SIGNALLING_LEFT_OUT && x.is_nan() { f32::from_bits(x.to_bits() | 0x0040_0000) } else { x }
-}
-
 /// The next float below or above a positive one.
 pub fn before(x: f32) -> f32 {
     f32::from_bits(x.to_bits() - 1)
@@ -50,12 +40,27 @@ pub fn after(x: f32) -> f32 {
     f32::from_bits(x.to_bits() + 1)
 }
 
-/// Inputs of every sort: zeros, subnormals, tiny, around 1, above, infinities, NaN, negatives.
+/// Inputs of every sort: zeros, subnormals, tiny, around 1, above, infinities, two quiet NaNs, negatives.
 pub const SPECIAL: [u32; 22] = [
     0x0000_0000, 0x8000_0000, 0x0000_0001, 0x8000_0001, 0x007F_FFFF, 0x0080_0000, 0x0D80_0000, 0x3300_0000, 0x3E80_0000, 0x3EFF_FFFF,
     0x3F00_0000, 0x3F00_0001, 0x3F7F_FFFF, 0x3F80_0000, 0x3F80_0001, 0x4000_0000, 0x7F7F_FFFF, 0x7F80_0000, 0xFF80_0000, 0x7FC0_0000,
     0xFFC0_1234, 0xBF80_0000,
 ];
+
+/// The NaNs at the ends: of each sign the first and the last quiet one and signalling one.
+pub const NANS: [u32; 8] =
+    [0x7FC0_0000, 0x7FFF_FFFF, 0xFFC0_0000, 0xFFFF_FFFF, 0x7F80_0001, 0x7FBF_FFFF, 0xFF80_0001, 0xFFBF_FFFF];
+
+/// A NaN: one at an end, or of any sign, kind and payload.
+pub fn random_nan(rng: &mut Rng) -> f32 {
+    let any = 0x7F80_0001 + rng.below(0x7F_FFFF) as u32 | (rng.below(2) as u32) << 31;
+    f32::from_bits(if rng.one_in(2) { rng.pick(&NANS) } else { any })
+}
+
+/// The number itself; in a NaN's place the infinity of its sign.
+pub fn numeric(x: f32) -> f32 {
+    if x.is_nan() { f32::INFINITY.copysign(x) } else { x }
+}
 
 /// Table entries of every sort; a signalling NaN too, for no entry is answered without arithmetic.
 pub const ENTRIES: [u32; 16] = [
@@ -95,10 +100,10 @@ pub fn special_inputs(g: u8) -> Vec<f32> {
     list
 }
 
-/// A random input of a random sort.
+/// A random input of a random sort, rarely a NaN.
 pub fn random_input(rng: &mut Rng, g: u8) -> f32 {
     let scale = f32::from(g.max(2) - 1);
-    askable(match rng.below(13) {
+    match rng.below(13) {
         0 => f32::from_bits(rng.pick(&SPECIAL)),
         1 => rng.bits(),
         2 => rng.below(256) as f32 / 255.0,
@@ -111,7 +116,7 @@ pub fn random_input(rng: &mut Rng, g: u8) -> f32 {
         // A weight that inks of other sizes may have too.
         9 => (rng.below(scale as usize) as f32 + rng.pick(&[0.25, 0.5, 0.75])) / scale,
         _ => rng.unit(),
-    })
+    }
 }
 
 /// Inputs for inks of these sizes, which start over after the last; often several alike, so that weights tie.
@@ -120,6 +125,12 @@ pub fn random_inputs(rng: &mut Rng, sizes: &[u8], inputs: &mut [f32]) {
     for i in 0..inputs.len() {
         inputs[i] = if alike && i > 0 && rng.one_in(2) { inputs[rng.below(i)] } else { random_input(rng, sizes[i % sizes.len()]) };
     }
+}
+
+/// The same, none a NaN.
+pub fn random_numbers(rng: &mut Rng, sizes: &[u8], inputs: &mut [f32]) {
+    random_inputs(rng, sizes, inputs);
+    inputs.iter_mut().for_each(|x| *x = numeric(*x));
 }
 
 /// A table of one of eight sorts.

@@ -1,5 +1,6 @@
 /* Calls every function of the header: each refusal in its place, the checked numbers, and that nothing else is written.
  * Prints what does not hold, then the count of checks. */
+#include <math.h>
 #include <stdio.h>
 #include <string.h>
 #include "tenahvar.h"
@@ -155,6 +156,45 @@ static void lookup_calls(void) {
     EXPECT(all(answer + 1, 2, UNTOUCHED));
 }
 
+/* Ink `ink` of n has the lines 0.25 and 0.75 and the input with these bits, the others have one line and the input 0.5: a NaN is refused after 6, 7
+ * and 8, and nothing is written; an infinity is clipped, and answers its line. */
+static void nan_input(size_t n, size_t ink, uint32_t bits) {
+    const float table[] = {0.25f, 0.75f, 0.25f, 0.75f};
+    uint8_t sizes[16];
+    float inks[17], answer[2];
+    memset(sizes, 1, sizeof sizes);
+    sizes[ink] = 2;
+    for (size_t i = 0; i < 17; i++) inks[i] = 0.5f;
+    memcpy(&inks[ink], &bits, sizeof bits);
+    reset(answer, 2);
+    EXPECT(tenahvar_lookup(sizes, n, 1, table, 2, inks, n, answer, 2) == TENAHVAR_NAN_INPUT);
+    EXPECT(tenahvar_lookup(sizes, n, 1, table, 1, inks, n, answer, 2) == TENAHVAR_SHORT_TABLE);
+    EXPECT(tenahvar_lookup(sizes, n, 1, table, 2, inks, n + 1, answer, 2) == TENAHVAR_INPUT_COUNT);
+    EXPECT(tenahvar_lookup(sizes, n, 2, table, 4, inks, n, answer, 1) == TENAHVAR_SHORT_ANSWER);
+    EXPECT(all(answer, 2, UNTOUCHED));
+    inks[ink] = HUGE_VALF;
+    EXPECT(tenahvar_lookup(sizes, n, 1, table, 2, inks, n, answer, 2) == TENAHVAR_DONE && all(answer, 1, 0.75f));
+    inks[ink] = -HUGE_VALF;
+    EXPECT(tenahvar_lookup(sizes, n, 1, table, 2, inks, n, answer, 2) == TENAHVAR_DONE && all(answer, 1, 0.25f));
+    /* Behind the inks it is one input too many, or not lent at all. */
+    memcpy(&inks[n], &bits, sizeof bits);
+    EXPECT(tenahvar_lookup(sizes, n, 1, table, 2, inks, n + 1, answer, 2) == TENAHVAR_INPUT_COUNT);
+    EXPECT(tenahvar_lookup(sizes, n, 1, table, 2, inks, n, answer, 2) == TENAHVAR_DONE && all(answer + 1, 1, UNTOUCHED));
+}
+
+/* Document 02, E8: NaNs of both kinds and signs, at each ink of one to fifteen. As an entry of the table none is refused: the colour is a NaN. */
+static void nan_inputs(void) {
+    static const uint32_t patterns[] = {0x7FC00000, 0xFFC00000, 0x7FFFFFFF, 0xFFFFFFFF, 0x7F800001, 0xFF800001, 0x7FBFFFFF, 0xFFBFFFFF};
+    const float ink = 0.5f;
+    float entry, answer = UNTOUCHED;
+    for (size_t i = 0; i < sizeof patterns / sizeof *patterns; i++) {
+        for (size_t n = 1; n <= 15; n++)
+            for (size_t place = 0; place < n; place++) nan_input(n, place, patterns[i]);
+        memcpy(&entry, &patterns[i], sizeof entry);
+        EXPECT(tenahvar_lookup(sizes_of(1, 1), 1, 1, &entry, 1, &ink, 1, &answer, 1) == TENAHVAR_DONE && answer != answer);
+    }
+}
+
 static void node_calls(void) {
     float table[18] = {0};
     const size_t inside[] = {1, 2, 0}, outside[] = {0, 3};
@@ -209,11 +249,12 @@ static void texts(void) {
         {TENAHVAR_INPUT_COUNT, "coordinates"}, {TENAHVAR_SHORT_ANSWER, "buffer"},       {TENAHVAR_FOREIGN_RECORD, "record"},
         {TENAHVAR_OUTSIDE_GRID, "node"},      {TENAHVAR_NO_SUCH_INK, "the ink to cut"}, {TENAHVAR_NO_SUCH_LINE, "the line to cut"},
         {TENAHVAR_SHORT_ELEMENT, "20 bytes"}, {TENAHVAR_PRECISION, "precision"},        {TENAHVAR_SHORT_DATA, "data"},
+        {TENAHVAR_NAN_INPUT, "not a number"},
     };
-    const uint32_t none[] = {16, 255, 256, 65536 + 14, 0x7FFFFFFF, 0xFFFFFFFF};
+    const uint32_t none[] = {17, 255, 256, 65536 + 14, 0x7FFFFFFF, 0xFFFFFFFF};
     for (size_t i = 0; i < sizeof faults / sizeof *faults; i++)
         EXPECT(strstr(tenahvar_refusal_text(faults[i].number), faults[i].fault) != NULL);
-    for (uint32_t number = 1; number < 16; number++)
+    for (uint32_t number = 1; number < 17; number++)
         for (uint32_t other = 0; other < number; other++)
             EXPECT(strcmp(tenahvar_refusal_text(number), tenahvar_refusal_text(other)) != 0);
     for (size_t i = 0; i < sizeof none / sizeof *none; i++) EXPECT(strcmp(tenahvar_refusal_text(none[i]), tenahvar_refusal_text(4)) == 0);
@@ -233,6 +274,7 @@ int main(void) {
     lookup_calls();
     unequal_lookups();
     case_12();
+    nan_inputs();
     node_calls();
     weight_calls();
     cube_calls(tenahvar_pyramidal, 0.25f);

@@ -60,7 +60,7 @@ fn zero_unsigned(input: f32) -> f32 {
     if input == 0.0 { 0.0 } else { input }
 }
 
-/// The crate's m answers for an accepted call: n 1..15, m 1..15, a table of at least gⁿ·m entries, n inputs.
+/// The crate's m answers for an accepted call: n 1..15, m 1..15, a table of at least gⁿ·m entries, n inputs that are numbers.
 pub fn rust_lookup(g: u8, n: usize, m: usize, table: &[f32], inputs: &[f32]) -> Vec<f32> {
     answers(&Lut::new(g, n, m), m, table, inputs)
 }

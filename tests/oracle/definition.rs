@@ -1,11 +1,12 @@
-//! A lookup in the words of document 01, with document 02's upper node (E4) and a size for each ink (E5), over coordinates. Nothing here is taken from
-//! the crate: it is the oracle where demand 2 leaves the crate's text out and where sizes are unequal. Every product, sum and difference is rounded
-//! once, in the order written.
+//! A lookup in the words of document 01, with document 02's upper node (E4) and a size for each ink (E5), over coordinates, for inputs that are numbers
+//! (E8). Nothing here is taken from the crate: it is the oracle where demand 2 leaves the crate's text out and where sizes are unequal. Every product,
+//! sum and difference is rounded once, in the order written.
 
 use crate::Cell;
 
-/// Clip: above 1 is 1; above 0 is itself; all else, NaN and both zeros included, is +0.0.
+/// Clip a number: above 1 is 1; above 0 is itself; all else, both zeros included, is +0.0. A NaN is refused before (E8).
 fn clip(x: f32) -> f32 {
+    assert!(x == x, "no lookup with a NaN input is accepted");
     if x > 1.0 {
         1.0
     } else if x > 0.0 {

@@ -1,5 +1,6 @@
-//! What a lookup is held to (demand 2, as document 02's E4 and E5 have it): with equal sizes the crate's answers, except where the rounded p+1 skips a
-//! node and that is still at or below g−1, for some ink from the fifth on. There, and with unequal sizes, it is the definition.
+//! What an accepted lookup is held to (demand 2, as document 02's E4 and E5 have it): with equal sizes the crate's answers, except where the rounded p+1
+//! skips a node and that is still at or below g−1, for some ink from the fifth on. There, and with unequal sizes, it is the definition. No input is a
+//! NaN: such a lookup is refused (E8).
 
 use crate::definition::{self, product};
 

@@ -26,22 +26,31 @@ pub fn layout(sizes: &[u8; 16], n: usize, m: usize) -> u32 {
     0
 }
 
-/// The table, the inputs and the answer buffer: 6, 7, 8.
-fn lent(sizes: &[u8], m: usize, table: usize, inputs: usize, answer: usize) -> u32 {
+/// IEEE 754: whether the bits are a NaN's, all ones in the exponent and a fraction that is not 0, with either sign.
+pub fn is_nan(input: f32) -> bool {
+    let bits = input.to_bits();
+    bits >> 23 & 0xFF == 0xFF && bits & 0x7F_FFFF != 0
+}
+
+/// The table, the inputs and the answer buffer: 6, 7, 8, and 16 (document 02, E8).
+fn lent(sizes: &[u8], m: usize, table: usize, inputs: &[f32], answer: usize) -> u32 {
     if (table as u128) < total(sizes, m) {
         return 6; // table shorter than the total
     }
-    if inputs != sizes.len() {
+    if inputs.len() != sizes.len() {
         return 7; // number of inputs is not n
     }
     if answer < m {
         return 8; // answer buffer shorter than m
     }
+    if inputs.iter().any(|&input| is_nan(input)) {
+        return 16; // some input is NaN
+    }
     0
 }
 
-/// A lookup that lays out first: the layout's, then 6, 7, 8.
-pub fn lookup(sizes: &[u8; 16], n: usize, m: usize, table: usize, inputs: usize, answer: usize) -> u32 {
+/// A lookup that lays out first: the layout's, then 6, 7, 8, 16.
+pub fn lookup(sizes: &[u8; 16], n: usize, m: usize, table: usize, inputs: &[f32], answer: usize) -> u32 {
     match layout(sizes, n, m) {
         0 => lent(&sizes[..n], m, table, inputs, answer),
         refused => refused,
@@ -141,8 +150,8 @@ pub fn accepted(record: &Record) -> Option<(Vec<u8>, usize)> {
     (layout(&sizes, n, m) == 0 && self::record(&sizes, n, m) == *record).then(|| (sizes[..n].to_vec(), m))
 }
 
-/// A lookup with a record: 9, 6, 7, 8.
-pub fn record_lookup(record: &Record, table: usize, inputs: usize, answer: usize) -> u32 {
+/// A lookup with a record: 9, 6, 7, 8, 16.
+pub fn record_lookup(record: &Record, table: usize, inputs: &[f32], answer: usize) -> u32 {
     accepted(record).map_or(9, |(sizes, m)| lent(&sizes, m, table, inputs, answer))
 }
 

@@ -126,6 +126,8 @@ pub struct List {
     pub entries: usize,
     /// How many lookups demand 2 excepts (E4), and in how many of them the crate's answers are others.
     pub excepted: [usize; 2],
+    /// How many lookups are refused for a NaN input (E8).
+    pub nans: usize,
     /// How many cases of each kind have a record with unequal sizes.
     pub unequal: [usize; 13],
 }
@@ -164,10 +166,11 @@ impl List {
         self.entries += entries.len();
         self.count_unequal(1, &record);
         assert!(entries.len() <= ROOM);
-        let number = expected::record_lookup(&record, entries.len(), inputs.len(), answer);
+        let inputs: Vec<f32> = inputs.iter().map(|&b| f32::from_bits(b)).collect();
+        let number = expected::record_lookup(&record, entries.len(), &inputs, answer);
+        self.nans += usize::from(number == 16);
         if number == 0 {
             let (sizes, m) = expected::accepted(&record).expect("an accepted record");
-            let inputs: Vec<f32> = inputs.iter().map(|&b| f32::from_bits(b)).collect();
             if let Some(parted) = oracle::parted(&sizes, m, &entries, &inputs) {
                 self.excepted[0] += 1;
                 self.excepted[1] += usize::from(parted);

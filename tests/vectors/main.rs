@@ -7,6 +7,7 @@ mod cluts;
 mod grids;
 mod list;
 mod lookups;
+mod nans;
 mod others;
 mod slabs;
 mod unequal;
@@ -33,6 +34,7 @@ fn main() {
     cluts::all(list, rng);
     slabs::all(list, rng);
     units::all(list, rng);
+    nans::all(list, rng);
     // The end: a kind that is none. The case behind it must not be printed.
     list.stdin.push_str("ff 1 2\n4 9 3\n");
     std::fs::write(format!("{folder}/stdin"), &list.stdin).expect("stdin is written");
@@ -52,4 +54,5 @@ fn main() {
     let [excepted, parted] = list.excepted;
     println!("vectors: {excepted} lookups are excepted from demand 2 (E4); in {parted} of them the Rust text answers otherwise");
     assert!(parted > 0, "no stored lookup shows the upper node of E4");
+    println!("vectors: {} lookups are refused for a NaN input (E8)", list.nans);
 }

@@ -104,7 +104,8 @@ pub fn layout(grid: &Grid) -> Result<Layout, Refusal> {
     told(number).map(|()| rows)
 }
 
-/// Sets the first `m` entries of `answer` to the colour at `inputs`, and no others. The refusals of [`layout`], then 6, 7 and 8.
+/// Sets the first `m` entries of `answer` to the colour at `inputs`, and no others. An input below 0 counts as 0 and one above 1 as 1. The refusals of
+/// [`layout`], then 6, 7, 8, and 16 for a NaN among the inputs.
 pub fn lookup(
     grid: &Grid,
     table: &[f32],

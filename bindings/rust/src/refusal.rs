@@ -34,12 +34,14 @@ pub enum Refusal {
     Precision,
     /// 15: there is too little data, for the table of a CLUT element or for the count of values.
     ShortData,
+    /// 16: an input of a lookup is a NaN.
+    NanInput,
     /// A number that this binding does not know: the archive is of another version.
     Other(u32),
 }
 
 /// Each refusal with its number and its text, which is the C header's.
-const KNOWN: [(Refusal, u32, &str); 14] = [
+const KNOWN: [(Refusal, u32, &str); 15] = [
     (
         Refusal::InputInks,
         1,
@@ -94,6 +96,7 @@ const KNOWN: [(Refusal, u32, &str); 14] = [
     ),
     (Refusal::Precision, 14, "the precision is neither 1 nor 2"),
     (Refusal::ShortData, 15, "there is too little data"),
+    (Refusal::NanInput, 16, "an input is not a number"),
 ];
 
 impl Refusal {

@@ -58,7 +58,13 @@ fn refused_layouts() {
 #[test]
 fn colours() {
     let mut answer = [UNTOUCHED; 3];
-    for (input, colour) in [(0.25, 0.25), (f32::NAN, 0.0), (2.0, 1.0)] {
+    let inputs = [
+        (0.25, 0.25),
+        (2.0, 1.0),
+        (f32::INFINITY, 1.0),
+        (f32::NEG_INFINITY, 0.0),
+    ];
+    for (input, colour) in inputs {
         assert_eq!(
             lookup(&Grid::new(2, 1, 1), &[0.0, 1.0], &[input], &mut answer),
             Ok(())
@@ -85,6 +91,23 @@ fn colours() {
         Ok(())
     );
     assert_eq!(answer, [0.25, UNTOUCHED, UNTOUCHED]);
+}
+
+#[test]
+fn a_nan_among_the_inputs_is_refused_and_nothing_is_written() {
+    let mut answer = [UNTOUCHED; 3];
+    for n in 1..=15 {
+        let (grid, table) = (Grid::new(1, n, 2), [0.25, 0.75]);
+        for (ink, bits) in [(0, 0x7FC0_0000), (n - 1, 0xFF80_0001), (n / 2, 0x7FBF_FFFF)] {
+            let mut inputs = vec![0.5; n];
+            inputs[ink] = f32::from_bits(bits);
+            let refused = lookup(&grid, &table, &inputs, &mut answer);
+            assert_eq!(refused, Err(Refusal::NanInput), "ink {ink} of {n}");
+            assert_eq!(answer, [UNTOUCHED; 3]);
+            let short = lookup(&grid, &table, &inputs, &mut answer[..1]);
+            assert_eq!(short, Err(Refusal::ShortAnswer));
+        }
+    }
 }
 
 #[test]
@@ -232,7 +255,7 @@ fn header_text(number: &str) -> std::string::String {
 
 #[test]
 fn every_refusal_has_its_number_and_the_header_s_text() {
-    for number in (1..=15).filter(|&number| number != 4) {
+    for number in (1..=16).filter(|&number| number != 4) {
         let refusal = told(number).unwrap_err();
         assert_eq!(refusal.number(), number);
         assert!(!matches!(refusal, Refusal::Other(_)));
@@ -244,7 +267,7 @@ fn every_refusal_has_its_number_and_the_header_s_text() {
 
 #[test]
 fn a_number_of_another_version_is_no_panic() {
-    for number in [4, 16, u32::MAX] {
+    for number in [4, 17, u32::MAX] {
         let refusal = told(number).unwrap_err();
         assert_eq!(refusal, Refusal::Other(number));
         assert_eq!(refusal.number(), number);
