@@ -1,5 +1,6 @@
 /* Looks a colour of four inks up in a small table and prints its bits and decimals. */
 #include <inttypes.h>
+#include <math.h>
 #include <stdio.h>
 #include <string.h>
 #include "tenahvar.h"
@@ -32,7 +33,7 @@ static void show(const char *what, const float *colour) {
 int main(void) {
     uint8_t sizes[16];
     float table[NODES * M], answer[M];
-    const float inks[N] = {0.1f, 0.2f, 0.3f, 0.4f};
+    const float inks[N] = {0.1f, 0.2f, 0.3f, 0.4f}, broken[N] = {0.1f, NAN, 0.3f, 0.4f};
     const size_t red[N] = {0, 1, 1, 0};
     size_t offset;
     memset(sizes, G, sizeof sizes);
@@ -48,5 +49,8 @@ int main(void) {
 
     number = tenahvar_lookup(sizes, N, M, table, NODES * M - 1, inks, N, answer, M);
     printf("a table of one entry less: refused %" PRIu32 "\n", number);
+
+    number = tenahvar_lookup(sizes, N, M, table, NODES * M, broken, N, answer, M);
+    printf("a broken sensor's NaN: refused %" PRIu32 ", %s\n", number, tenahvar_refusal_text(number));
     return 0;
 }

@@ -40,5 +40,13 @@ fn main() -> Result<(), Refusal> {
     if let Err(refusal) = lookup(&grid, &table[1..], &inks, &mut answer) {
         println!("a table of one entry less: refused {}", refusal.number());
     }
+
+    let broken = [0.1, f32::NAN, 0.3, 0.4];
+    if let Err(refusal) = lookup(&grid, &table, &broken, &mut answer) {
+        println!(
+            "a broken sensor's NaN: refused {}, {refusal}",
+            refusal.number()
+        );
+    }
     Ok(())
 }
