@@ -18,7 +18,7 @@ pub fn all(run: &mut Run, rng: &mut Rng) {
             }
         }
     }
-    run.kind("two to fifteen NaNs at once, one to fifteen inks");
+    run.kind("some or all of two to fifteen inks NaNs");
     for n in 2..=15 {
         let [table, _] = tables(rng, &equal(2, n), 2);
         let mut inputs = vec![0.0; n];
