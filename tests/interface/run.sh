@@ -115,7 +115,8 @@ if echo 'int main(void) { return 0; }' | "$cc" -fsanitize=address,undefined -x c
     compiled "$work/sanitized" -g -fsanitize=address,undefined -fno-sanitize-recover
     for program in "${calls[@]}"; do "$work/sanitized/tests/$program" >"$work/checked.out"; done
     examples "$work/sanitized/examples"
-    tests/interface/faults.sh "$work/sanitized/examples/profile" "$work/profiles" >"$work/checked.out"
+    # Leaks are looked for where one process reads all profiles: on some machines that takes seconds as a process ends, and there are many here.
+    ASAN_OPTIONS=detect_leaks=0 tests/interface/faults.sh "$work/sanitized/examples/profile" "$work/profiles" >"$work/checked.out"
     broken sanitized "$work/sanitized/tests/broken"
     say "no finding of the address and undefined-behaviour sanitizers"
 else
