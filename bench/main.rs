@@ -21,27 +21,32 @@ use std::time::Instant;
 
 /// Ink counts with a size whose table is a usual one, 1 KB to about 1 MB; and few inks on two lines, where the table is
 /// small and a call's fixed cost shows.
-const GRIDS: [(usize, u8); 14] =
-    [(1, 255), (2, 33), (3, 33), (4, 17), (5, 9), (6, 6), (8, 4), (10, 3), (12, 2), (15, 2), (1, 2), (2, 2), (3, 2), (4, 2)];
+const GRIDS: [(usize, u8); 15] =
+    [(1, 255), (2, 33), (3, 33), (4, 17), (5, 9), (6, 6), (7, 5), (8, 4), (10, 3), (12, 2), (15, 2), (1, 2), (2, 2), (3, 2), (4, 2)];
+/// Grids that are timed with few points too.
+const FEW_TOO: [(usize, u8); 2] = [(3, 33), (4, 17)];
 /// A size for each ink, of tables as large.
 const OWN_SIZES: [&[u8]; 3] = [&[17, 17, 9, 17], &[9, 9, 9, 9, 5, 3], &[3, 3, 3, 3, 2, 2, 2, 2, 2, 2, 2, 2]];
 /// How many values without a header: those of a table of 17 lines, four inks and three outputs; more than a cache holds; and few, where a
 /// call's fixed cost shows.
 const VALUES: [usize; 3] = [250_563, 4_194_304, 64];
-const POINTS: usize = 512;
+/// Random points. With few of them, over and over, the processor learns by heart which of the Rust text's six branches comes next.
+const POINTS: usize = 4096;
+const FEW: usize = 512;
 const ROUNDS: usize = 9;
 
 fn main() {
     let rng = &mut values::Rng(7);
-    println!("ns per lookup, best of {ROUNDS} rounds in turn; up to {POINTS} random points; {}", std::env::consts::ARCH);
-    println!("{:>3} {:>4} {:>3} {:>10} {:>12} {:>12} {:>14}", "n", "g", "m", "table KB", "Rust text", "library", "library/Rust");
-    for (n, g) in GRIDS {
+    println!("ns per lookup, best of {ROUNDS} rounds in turn; {}", std::env::consts::ARCH);
+    println!("{:>3} {:>4} {:>3} {:>10} {:>7} {:>12} {:>12} {:>14}", "n", "g", "m", "table KB", "points", "Rust text", "library", "library/Rust");
+    let most = GRIDS.map(|(n, g)| (n, g, POINTS));
+    for (n, g, points) in most.into_iter().chain(FEW_TOO.map(|(n, g)| (n, g, FEW))) {
         for m in [3, 4] {
             let table: Vec<f32> = (0..(g as usize).pow(n as u32) * m).map(|_| rng.unit()).collect();
-            let inputs: Vec<f32> = (0..POINTS * n).map(|_| rng.unit()).collect();
-            let (rust, library) = side_by_side(g, n, m, &table, &inputs);
+            let inputs: Vec<f32> = (0..points * n).map(|_| rng.unit()).collect();
+            let (used, rust, library) = side_by_side(g, n, m, &table, &inputs);
             let kb = table.len() * 4 / 1024;
-            println!("{n:>3} {g:>4} {m:>3} {kb:>10} {rust:>12.1} {library:>12.1} {:>14.2}", library / rust);
+            println!("{n:>3} {g:>4} {m:>3} {kb:>10} {used:>7} {rust:>12.1} {library:>12.1} {:>14.2}", library / rust);
         }
     }
     println!("ns per lookup with a size for each ink, m 3; the Rust text has no such lookup");
@@ -142,8 +147,8 @@ fn rust_loop(data: &[u8], precision: usize, entries: &mut [f32]) {
     }
 }
 
-/// The best time of each, in ns for one lookup.
-fn side_by_side(g: u8, n: usize, m: usize, table: &[f32], inputs: &[f32]) -> (f64, f64) {
+/// How many points were timed, and the best time of each, in ns for one lookup.
+fn side_by_side(g: u8, n: usize, m: usize, table: &[f32], inputs: &[f32]) -> (usize, f64, f64) {
     let (lut, sizes) = (oracle::Lut::new(g, n, m), [g; 16]);
     let rust = |inputs: &[f32], answer: &mut [f32]| lut.lookup(black_box(table), inputs, answer);
     let library = |inputs: &[f32], answer: &mut [f32]| {
@@ -157,7 +162,7 @@ fn side_by_side(g: u8, n: usize, m: usize, table: &[f32], inputs: &[f32]) -> (f6
     }
     // As many points, and passes over them, as take the Rust text some 10 ms.
     let once = time(n, &inputs[..16 * n], 1, &rust);
-    let points = (1e7 / once).clamp(16.0, POINTS as f64) as usize;
+    let points = (1e7 / once).clamp(16.0, (inputs.len() / n) as f64) as usize;
     let passes = (1e7 / (once * points as f64)).clamp(1.0, 1e4) as usize;
     let inputs = &inputs[..points * n];
     let mut best = (f64::MAX, f64::MAX);
@@ -165,7 +170,7 @@ fn side_by_side(g: u8, n: usize, m: usize, table: &[f32], inputs: &[f32]) -> (f6
         best.0 = best.0.min(time(n, inputs, passes, &rust));
         best.1 = best.1.min(time(n, inputs, passes, &library));
     }
-    best
+    (points, best.0, best.1)
 }
 
 /// The library's best time, in ns for one lookup. First its bits must be the definition's at every input.

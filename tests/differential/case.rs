@@ -1,5 +1,6 @@
 //! What a compared call is, how one that differs is made small, and how many of each kind were compared.
 
+use crate::engines;
 use std::time::{Duration, Instant};
 
 /// The sorts of calls that have a size for each ink.
@@ -138,6 +139,7 @@ impl Run {
         println!("            {} calls are refused for a NaN input (E8), with {quiet} quiet and {signalling} signalling ones", self.numbers[16]);
         let [accepted, refused] = [0, 1].map(|k| (0..5).map(|sort| format!("{} {}", SORTS[sort], self.unequal[sort][k])).collect::<Vec<_>>().join(", "));
         println!("            with unequal sizes (E5), held to the definition over coordinates: {accepted}; and refused: {refused}");
+        println!("            both engines asked: {} lookups", engines::asked());
         println!("{:>10}  calls compared, none different", self.counts.iter().map(|c| c.1).sum::<u64>());
     }
 }

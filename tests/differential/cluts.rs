@@ -1,6 +1,7 @@
 //! CLUT elements: reading one as a compared call, and a lookup in the table that was read.
 
 use crate::case::{are_unequal, compare, compare_bits, guarded, numbers, sentinel, Case, Sort, GUARD};
+use crate::engines;
 use crate::grids::padded;
 use crate::library;
 use oracle::{clut, expected};
@@ -121,12 +122,11 @@ impl Case for ReadLookup {
         if (got, right.number) != (0, 0) {
             return Some(format!("the number is {got}, and should be {}; only what is read is looked up in", right.number));
         }
-        let mut answer = guarded(*m);
-        let got = library::lookup(&sizes, *n, *m, &entries, &self.inputs, &mut answer[GUARD..GUARD + m]);
-        if got != 0 {
-            return Some(format!("the lookup's number is {got}, not 0"));
+        let answer = engines::lookup(&sizes, *n, *m, &entries, &self.inputs, *m);
+        if answer.number != 0 {
+            return Some(format!("the lookup's number is {}, not 0", answer.number));
         }
-        compare(&answer, &oracle::lookup(&element[..*n], *m, &right.entries, &self.inputs))
+        compare(&answer.buffer, &oracle::lookup(&element[..*n], *m, &right.entries, &self.inputs)).or(answer.apart)
     }
 
     fn smaller(&self, take: &mut dyn FnMut(Self) -> bool) {

@@ -1,6 +1,7 @@
 //! Demand 3 from end to end: an ink on a grid line, and lookups with and without it in the table and in the slab that the library cuts.
 
-use crate::case::{are_unequal, compare, guarded, number, numbers, Case, Run, Sort, GUARD};
+use crate::case::{are_unequal, compare, number, numbers, Case, Run, Sort, GUARD};
+use crate::engines::{self, Answer};
 use crate::grids::{of_counts, padded, Sizes};
 use crate::library;
 use crate::values::{after, numeric, random_input, random_numbers, with_products, Rng};
@@ -28,26 +29,21 @@ impl Fixed<'_> {
         inputs
     }
 
-    /// The library's answer in the whole table and in the slab that it cuts, in guarded buffers. For the slab ink j's size is taken out.
-    fn answers(&self) -> Result<[Vec<f32>; 2], String> {
+    /// The answers in the whole table and in the slab that the library cuts. For the slab ink j's size is taken out.
+    fn answers(&self) -> Result<[Answer; 2], String> {
         let (m, sizes, left) = (self.m, &self.sizes[..], &slab::without(&self.sizes, self.j)[..]);
-        let (mut whole, mut fewer) = (guarded(m), guarded(m));
         let mut part = vec![f32::NAN; expected::total(left, m) as usize + self.longer];
-        let lookup = |sizes: &[u8], table: &[f32], inputs: &[f32], answer: &mut [f32]| {
-            library::lookup(&padded(sizes), sizes.len(), m, table, inputs, &mut answer[GUARD..GUARD + m])
-        };
-        let numbers = [
-            library::cut_slab(&padded(sizes), sizes.len(), m, &self.table, self.j, self.k, &mut part),
-            lookup(sizes, &self.table, &self.inputs, &mut whole),
-            lookup(left, &part, &self.others(), &mut fewer),
-        ];
-        if numbers == [0; 3] { Ok([whole, fewer]) } else { Err(format!("the numbers of the cut and of both lookups are {numbers:?}")) }
+        let lookup = |sizes: &[u8], table: &[f32], inputs: &[f32]| engines::lookup(&padded(sizes), sizes.len(), m, table, inputs, m);
+        let cut = library::cut_slab(&padded(sizes), sizes.len(), m, &self.table, self.j, self.k, &mut part);
+        let answers = [lookup(sizes, &self.table, &self.inputs), lookup(left, &part, &self.others())];
+        let numbers = [cut, answers[0].number, answers[1].number];
+        if numbers == [0; 3] { Ok(answers) } else { Err(format!("the numbers of the cut and of both lookups are {numbers:?}")) }
     }
 
     /// Where the two answers differ by more than the sign of a zero.
-    fn apart(&self, [whole, fewer]: &[Vec<f32>; 2]) -> Option<String> {
+    fn apart(&self, [whole, fewer]: &[Answer; 2]) -> Option<String> {
         let plain = |x: f32| if x == 0.0 { 0 } else { x.to_bits() };
-        let (whole, fewer) = (&whole[GUARD..][..self.m], &fewer[GUARD..][..self.m]);
+        let (whole, fewer) = (&whole.buffer[GUARD..][..self.m], &fewer.buffer[GUARD..][..self.m]);
         let o = (0..self.m).find(|&o| plain(whole[o]) != plain(fewer[o]))?;
         Some(format!("output {o} is {} in the whole table and {} in the slab", number(whole[o]), number(fewer[o])))
     }
@@ -73,9 +69,10 @@ impl Case for Fixed<'_> {
             Err(refused) => return Some(refused),
         };
         let right = slab::entries(&self.sizes, self.m, &self.table, self.j, self.k);
-        compare(&answers[1], &oracle::lookup(&slab::without(&self.sizes, self.j), self.m, &right, &self.others()))
+        compare(&answers[1].buffer, &oracle::lookup(&slab::without(&self.sizes, self.j), self.m, &right, &self.others()))
             .map(|told| format!("in the slab, against the oracle: {told}"))
             .or_else(|| self.apart(&answers))
+            .or_else(|| answers.into_iter().find_map(|answer| answer.apart))
     }
 
     fn smaller(&self, take: &mut dyn FnMut(Self) -> bool) {

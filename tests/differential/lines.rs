@@ -1,7 +1,7 @@
 //! Inputs on and around grid lines, where the whole part of the product changes; and every input there is, for one ink.
 
 use crate::case::Run;
-use crate::library;
+use crate::engines;
 use crate::lookups::Lookup;
 use crate::values::{random_numbers, Rng};
 use oracle::expected;
@@ -53,15 +53,16 @@ fn each_line(run: &mut Run, rng: &mut Rng, sizes: &[u8]) {
     }
 }
 
-/// One ink on 255 lines at every float from 0 to 1. Both are called directly here: a billion calls.
+/// One ink on 255 lines at every float from 0 to 1. All three are called directly here: a billion calls.
 fn every_input(run: &mut Run, table: &[f32]) {
     run.kind("one ink on 255 lines, every input from 0 to 1");
     let lut = oracle::Lut::new(255, 1, 1);
-    let (mut rust, mut ours) = ([0.0], [0.0]);
+    let (mut rust, mut ours, mut first) = ([0.0], [0.0], [0.0]);
     for bits in 0..=1f32.to_bits() {
         let input = [f32::from_bits(bits)];
         lut.lookup(table, &input, &mut rust);
-        if library::lookup(&[255; 16], 1, 1, table, &input, &mut ours) != 0 || rust[0].to_bits() != ours[0].to_bits() {
+        let numbers = engines::ask(&[255; 16], 1, 1, table, &input, [&mut ours, &mut first]);
+        if numbers != [0; 2] || [ours, first].map(|x| x[0].to_bits()) != [rust[0].to_bits(); 2] {
             run.hold(Lookup::good(&[255], 1, table, &input));
         }
     }

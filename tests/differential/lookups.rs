@@ -1,8 +1,8 @@
 //! A lookup as a compared call.
 
-use crate::case::{are_unequal, compare, guarded, number, numbers, plainness, Case, Sort, GUARD};
+use crate::case::{are_unequal, compare, number, numbers, plainness, Case, Sort};
+use crate::engines::{self, Answer};
 use crate::grids::padded;
-use crate::library;
 use oracle::{expected, slab};
 use std::borrow::Cow;
 
@@ -64,17 +64,15 @@ impl Case for Lookup<'_> {
     }
 
     fn difference(&self) -> Option<String> {
-        let mut buffer = guarded(self.answer);
-        let lent = &mut buffer[GUARD..GUARD + self.answer];
-        let got = library::lookup(&self.sizes, self.n, self.m, &self.table, &self.inputs, lent);
-        let number = self.number();
+        let answer = engines::lookup(&self.sizes, self.n, self.m, &self.table, &self.inputs, self.answer);
+        let (Answer { number: got, buffer, apart }, number) = (answer, self.number());
         if got != number {
             return Some(format!("the number is {got}, not {number}"));
         }
         if number != 0 {
-            return compare(&buffer, &[]);
+            return compare(&buffer, &[]).or(apart);
         }
-        compare(&buffer, &oracle::lookup(self.used(), self.m, &self.table, &self.inputs))
+        compare(&buffer, &oracle::lookup(self.used(), self.m, &self.table, &self.inputs)).or(apart)
     }
 
     fn smaller(&self, take: &mut dyn FnMut(Self) -> bool) {

@@ -1,4 +1,5 @@
-//! The library against the oracle: the same calls to both, and every bit compared.
+//! The library against the oracle: the same calls to both, and every bit compared. Every lookup is asked of the
+//! first engine too, which must agree with the library's (engines.rs).
 //!
 //! Arguments: the number of random lookups with equal sizes, and as many with unequal ones (default 200,000), the seed (default 1), and `long` for larger sets.
 //! Exit status 0 where all agree; 1 at the first difference, which is then reduced and printed in full.
@@ -8,6 +9,7 @@ mod cluts;
 mod cubes;
 mod down;
 mod elements;
+mod engines;
 mod exhaustive;
 mod fixed;
 mod grids;

@@ -1,9 +1,9 @@
 //! NaN inputs (document 02, E8): each ink of one to fifteen in turn, every NaN that there is, and infinities beside them, which are clipped.
 
 use crate::case::{guarded, sentinel, Case, Run, GUARD};
+use crate::engines;
 use crate::exhaustive::tables;
 use crate::grids::{equal, padded};
-use crate::library;
 use crate::lookups::Lookup;
 use crate::values::{random_nan, random_numbers, Rng, NANS};
 
@@ -54,18 +54,19 @@ fn each_ink(run: &mut Run, rng: &mut Rng, sizes: &[u8], m: usize) {
     }
 }
 
-/// The last of n inks at every NaN, 2^24 - 2 of them. The library is called directly here.
+/// The last of n inks at every NaN, 2^24 - 2 of them. The engines are called directly here.
 fn every_nan(run: &mut Run, rng: &mut Rng, n: usize) {
     let [table, _] = tables(rng, &equal(3, n), 1);
-    let (sizes, mut inputs, mut buffer) = (padded(&equal(3, n)), vec![0.25; n], guarded(2));
+    let (sizes, mut inputs, mut buffers) = (padded(&equal(3, n)), vec![0.25; n], [guarded(2), guarded(2)]);
     for bits in (0x7F80_0001..=0x7FFF_FFFF).chain(0xFF80_0001..=0xFFFF_FFFF) {
         inputs[n - 1] = f32::from_bits(bits);
-        let got = library::lookup(&sizes, n, 1, &table, &inputs, &mut buffer[GUARD..GUARD + 2]);
-        if got != 16 || buffer[GUARD].to_bits() != sentinel(GUARD).to_bits() {
+        let got = engines::ask(&sizes, n, 1, &table, &inputs, buffers.each_mut().map(|buffer| &mut buffer[GUARD..GUARD + 2]));
+        if got != [16; 2] || buffers.iter().any(|buffer| buffer[GUARD].to_bits() != sentinel(GUARD).to_bits()) {
             run.hold(Lookup { answer: 2, ..Lookup::good(&equal(3, n), 1, &table, &inputs) });
         }
     }
-    assert!(buffer.iter().enumerate().all(|(place, x)| x.to_bits() == sentinel(place).to_bits()), "a refused call wrote");
+    let untouched = |buffer: &Vec<f32>| buffer.iter().enumerate().all(|(place, x)| x.to_bits() == sentinel(place).to_bits());
+    assert!(buffers.iter().all(untouched), "a refused call wrote");
     // Of each sign 2^22 are quiet; signalling ones are as many but for the pattern of an infinity.
     run.refused((1 << 24) - 2, [1 << 23, (1 << 23) - 2]);
 }

@@ -1,11 +1,11 @@
 #!/usr/bin/env bash
-# run.sh [--long] [RUST_TEXT]: the library against the oracle, every bit of every answer.
+# run.sh [--long] [RUST_TEXT]: the library against the oracle, every bit of every answer; every lookup asked of both engines.
 #
-# Builds the library's archive for this machine (tests/native-staticlib), the oracle from the crate's Rust text
-# (RUST_TEXT, ../shared/docs/src beside the repository unless told otherwise) and the comparing program, and runs it:
+# Builds the archives of the library and of the first engine for this machine (tests/native-staticlib), the oracle from
+# the crate's Rust text (RUST_TEXT, ../shared/docs/src beside the repository unless told otherwise) and the comparing program, and runs it:
 # half a minute; --long makes two million random lookups of either sort (one size, unequal sizes) and larger sets. Needs rustc, and no network.
 # Where the Rust text is not there nothing is compared: it says so and exits with 0.
-# TENAHVAR_ARCHIVE=DIR compares DIR/libtenahvar.a instead of building one; SEED=N takes another seed.
+# TENAHVAR_ARCHIVE=DIR takes DIR/libtenahvar.a and DIR/libfirst.a instead of building them; SEED=N takes another seed.
 set -euo pipefail
 here=$(cd "$(dirname "${BASH_SOURCE[0]}")" && pwd -P)
 top=$(cd "$here/../.." && pwd -P)
@@ -22,7 +22,7 @@ mkdir -p "$out"
 "$here/../oracle/build.sh" "$text" "$top/target/oracle"
 archive=${TENAHVAR_ARCHIVE:-}
 if [ -z "$archive" ]; then
-    (cd "$top" && "$here/../native-staticlib" tenahvar)
+    for name in tenahvar first; do (cd "$top" && "$here/../native-staticlib" "$name"); done
     archive=$top/target/native
 fi
 # No target-cpu and no fast mathematics: rustc then fuses nothing.

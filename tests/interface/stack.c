@@ -20,6 +20,7 @@ static uint64_t total;
 static void layout(void) { number = tenahvar_layout(sizes, N, M, strides, filling, scale); }
 static void count(void) { number = tenahvar_total(sizes, N, M, &total); }
 static void lookup(void) { number = tenahvar_lookup(sizes, N, M, table, ENTRIES, inputs, N, answer, M); }
+static void lookup_9(void) { number = tenahvar_lookup(sizes, 9, M, table, ENTRIES, inputs, 9, answer, M); }
 static void node(void) { number = tenahvar_node(sizes, N, M, table, ENTRIES, coordinates, N, &offset); }
 static void clut(void) { number = tenahvar_read_clut(bytes, sizeof bytes, N, M, sizes, table, ENTRIES); }
 static void units(void) { number = tenahvar_read_units(bytes, sizeof bytes, 2, ENTRIES / 2, table, ENTRIES); }
@@ -47,7 +48,7 @@ static size_t taken(void (*call)(void)) {
 
 int main(void) {
     static const struct { const char *name; void (*call)(void); } calls[] = {
-        {"layout", layout}, {"total", count}, {"lookup", lookup}, {"node", node}, {"read_clut", clut}, {"read_units", units}, {"cut_slab", cut},
+        {"layout", layout}, {"total", count}, {"lookup", lookup}, {"lookup of 9", lookup_9}, {"node", node}, {"read_clut", clut}, {"read_units", units}, {"cut_slab", cut},
         {"create_ranged_256", ranged}, {"pyramidal", pyramid}, {"prismatic", prism}, {"trilinear", trilinear},
     };
     table = calloc(ENTRIES, sizeof *table);

@@ -57,3 +57,7 @@ six c x y z xy yz xz =
 
 abbrev pub tetra : (Bool → Bool → Bool → Float) → Float → Float → Float → Float
 tetra c x y z = six c x y z (le y x) (le z y) (le z x)
+
+-- eight corners by name, 0 for the lower and 1 for the upper node of ink 1, 2 and 3: the one at i, j, k
+abbrev pub eight : Float → Float → Float → Float → Float → Float → Float → Float → Bool → Bool → Bool → Float
+eight c000 c100 c010 c110 c001 c101 c011 c111 i j k = cond k (cond j (cond i c111 c011) (cond i c101 c001)) (cond j (cond i c110 c010) (cond i c100 c000))

@@ -21,14 +21,14 @@ differs-is (inf false) = refl
 differs-is (fin true m e) = ap (λ (b : Bool). not (b && true)) (eq-eqb (m * up e * down e) (m * up e * down e) refl)
 differs-is (fin false m e) = ap (λ (b : Bool). not (b && true)) (eq-eqb (m * up e * down e) (m * up e * down e) refl)
 
--- ---- an answer that is none where a test holds, and else a value
+-- ---- any answer that is none where a test holds, and else a value
 
 module _ {A E : Type 0} (none : E) (value : A → E) (one : (v w : A) → value v ≡ value w → v ≡ w) (apart : (v : A) → value v ≡ none → ⊥) where
-  tells-value : (b : Bool) (v w : A) → value v ≡ cond b none (value w) → (b ≡ false) × (v ≡ w)
+  pub tells-value : (b : Bool) (v w : A) → value v ≡ cond b none (value w) → (b ≡ false) × (v ≡ w)
   tells-value true v w e = absurd (apart v e)
   tells-value false v w e = (refl, one v w e)
 
-  tells-none : (b : Bool) (w : A) → none ≡ cond b none (value w) → b ≡ true
+  pub tells-none : (b : Bool) (w : A) → none ≡ cond b none (value w) → b ≡ true
   tells-none true w e = refl
   tells-none false w e = absurd (apart w (sym e))
 

@@ -1,5 +1,5 @@
 -- Document 01, "Finding the cell": what a cell of one ink is. Definitions only.
-use Prim.Native.Nat.{ℕ, _+_, _-_, _≤_, min}
+use Prim.Native.Nat.{ℕ, _+_, _-_, _*_, _≤_, min}
 use mathlib.Core.Bool.{Bool, true, false, cond}
 use lib.Dec.{ltb}
 use lib.Ieee.{Float, binary32, sub, mul, lt, isNan, toUnsigned}
@@ -64,6 +64,10 @@ inkCell i g x = cond (ltb i 4) (cellLow x g) (cellHigh x g)
 -- what the cell rule says of an input x: that it is NaN, or its cell as a number, c
 abbrev pub foundOf : Float → Cell → Found
 foundOf x c = cond (isNan x) Found.NotANumber (Found.At c)
+
+-- a cell with its nodes as distances: s entries from one node to the next
+abbrev pub scale : ℕ → Cell → Cell
+scale s c = record { x = c .x * s; «x_n» = c .«x_n» * s; w = c .w }
 
 -- a cell's lower node (false) or its upper one (true)
 abbrev pub node : Cell → Bool → ℕ

@@ -5,7 +5,7 @@ ghost use Prim.Native.Nat.{_-_};
 ghost use lib.Dec.{ltb};
 ghost use lib.Ieee.{binary32, mul};
 ghost use Rattle.binary32.specs.Range.{UpTo, Below};
-ghost use Rattle.cell.specs.Rule.{clipOf, scaleOf, wholeOf, upOf, nextOf, cellAt, inkCell, foundOf};
+ghost use Rattle.cell.specs.Rule.{clipOf, scaleOf, wholeOf, upOf, nextOf, cellAt, inkCell, foundOf, scale};
 
 // One axis of a cell: the lower node, the upper node, and the weight of the upper one.
 pub struct Cell {
@@ -132,4 +132,20 @@ pub fn ink_cell(i: usize, x: f32, g: u8) -> Found
     let p = product(ink, g);
     let lower = whole_part(p);
     Found::At(cell_at(p, lower, upper_node(i, p, lower, g)))
+}
+
+// The same with the nodes as distances in table entries, where `filling` entries stand from one node of the ink to the next.
+pub fn placed(i: usize, x: f32, g: u8, filling: u32) -> Found
+    ensures { λ r. ⌜ r ≡ foundOf x (scale filling (inkCell i g x)) ⌝ }
+{
+    let of = ink_cell(i, x, g);
+    let Found::At(c) = of else {
+        return Found::NotANumber;
+    };
+    let s = filling as usize;
+    Found::At(Cell {
+        x: c.x * s,
+        x_n: c.x_n * s,
+        w: c.w,
+    })
 }

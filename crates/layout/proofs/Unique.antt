@@ -19,7 +19,7 @@ use Rattle.layout.proofs.entry_offset.Kinds as entry-offset-kinds
 use Rattle.layout.proofs.entry_offset.Reads as entry-offset-reads
 
 pub layout-unique : OneOutcome 0 layout-kinds.ps layout-kinds.r layout-reads.Post
-layout-unique κs a x y ws vs p q = (p ∙ sym q, refl)
+layout-unique κs a x y ws vs p q = (p .answer ∙ sym (q .answer), refl)
 
 pub refused-unique : OneOutcome 0 refused-kinds.ps refused-kinds.r refused-reads.Post
 refused-unique κs a x y ws vs p q = (p ∙ sym q, refl)

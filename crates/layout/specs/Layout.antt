@@ -86,6 +86,12 @@ pub record IsLayout (lut : MultidimensionalLut) : Type 0 where
   pub bytes : T (areBytes sizes)
   pub accepted : laidOf sizes n m ≡ record { refusal = 0; lut = lut }
 
+-- what a layout owes: its answer, and that its record is a layout's where no refusal is given
+pub record LaidBy (sizes : List ℕ) (n m : ℕ) (laid : Laid) : Type 0 where
+  pub answer : laid ≡ laidOf sizes n m
+  -- which follows, since the sizes are sixteen bytes
+  pub accepted : laid .refusal ≡ 0 → IsLayout (laid .lut)
+
 -- what `filling_sizes` owes: its number r, and the row afterwards, `now`, which was `old`
 pub record FillingOf (sizes : List ℕ) (n m : ℕ) (old : List ℕ) (r : ℕ) (now : List ℕ) : Type 0 where
   pub number : r ≡ laidOf sizes n m .refusal

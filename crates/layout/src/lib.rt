@@ -7,7 +7,7 @@ ghost use Prim.Native.Nat.{_-_, _*_};
 ghost use lib.ListN.{take, getD};
 ghost use Rattle.outcome.specs.Outcome.{Decides};
 ghost use Rattle.binary32.specs.Numbers.{plusZero, ofWhole};
-ghost use Rattle.layout.specs.Layout.{isCount, stride, places, refusedBy, laidOf, IsLayout, FillingOf};
+ghost use Rattle.layout.specs.Layout.{isCount, stride, places, refusedBy, laidOf, IsLayout, LaidBy, FillingOf};
 ghost use Rattle.layout.specs.Lengths.{lengthRefusal};
 ghost use Rattle.layout.specs.Tested.{Tested, Fills};
 
@@ -167,7 +167,7 @@ fn record_of(sizes: &[u8; 16], n: usize, m: usize) -> MultidimensionalLut
 
 // The layout of the first n of sixteen grid sizes, with n input and m output inks.
 pub fn layout(sizes: [u8; 16], n: usize, m: usize) -> Laid
-    ensures { λ r. ⌜ r ≡ laidOf sizes n m ⌝ }
+    ensures { λ r. ⌜ LaidBy sizes n m r ⌝ }
 {
     let refusal = refusal_of(&sizes, n, m);
     if refusal != 0 {

@@ -7,23 +7,20 @@ use lib.Dec.{ltb}
 use lib.Ieee.{Float, nan}
 use lib.ListN.{length, getD}
 use borrow.Author.Tests.{lt-ltb}
-use Rattle.binary32.specs.Range.{Below}
 use Rattle.lists.specs.Lists.{lastFirst, product}
 use Rattle.lists.specs.Buffer.{written, left}
 use Rattle.lists.proofs.Lists.{length-last-first, every-last-first}
 use Rattle.lists.proofs.Buffer.{written-same, left-same}
 use Rattle.cell.specs.declared.Cell.{Cell}
-use Rattle.cell.specs.Rule.{inkCell}
-use Rattle.cell.proofs.Laws.{ink-on-grid}
+use Rattle.cell.specs.Rule.{inkCell, scale}
 use Rattle.layout.specs.declared.MultidimensionalLut.{MultidimensionalLut}
 use Rattle.layout.specs.Layout.{IsLayout}
 use Rattle.layout.specs.Order.{Steps}
 use Rattle.layout.proofs.Laws.{inks-from, inks-to, outputs-to, size-from, size-to, filling-within, filling-steps, first-filling}
 use Rattle.lookup.specs.Table.{cells}
-use Rattle.lookup.specs.Places.{reach, strides, scale, scaled, planned, Inside, Plans, above, answer, placedInk, firstInks, furtherInks, Promised, answerIn}
+use Rattle.lookup.specs.Places.{reach, strides, scaled, answer, firstInks, Promised, answerIn}
 use Rattle.lookup.proofs.Reach.{reach-total}
 use Rattle.lookup.proofs.Distances.{answers-law}
-use Rattle.lookup.proofs.Further.{above-answer, reach-over, further}
 
 module _ (filling sizes : List ℕ) (xs : List Float) where
   -- the filling sizes are the strides of the sizes
@@ -36,10 +33,6 @@ module _ (filling sizes : List ℕ) (xs : List Float) where
       ap₂ (λ (c : Cell) (cs : List Cell). c ∷ cs)
       ((λ i. scale (getD filling (sym count i) 0) (inkCell (sym count i) g (getD xs (sym count i) nan))) ∙ ap (λ (s : ℕ). scale s (inkCell (length (lastFirst n sizes)) g (getD xs (length (lastFirst n sizes)) nan))) (steps .0))
       (first-inks n (m * g) (steps .1))
-
-  -- each weight is from 0 up and below 1
-  pub weight : (i : ℕ) (c : Cell) → getD sizes i 0 < 256 → c ≡ placedInk filling sizes xs i → Below 1 (c .w)
-  weight i c byte is = subst (λ (d : Cell). Below 1 (d .w)) (sym is) (ink-on-grid (getD xs i nan) (getD sizes i 0) byte i .weight)
 
 module _ (filling sizes : List ℕ) (xs : List Float) (m : ℕ) (laid : Promised filling sizes (length xs) m) (table : List Float)
     (enough : product (lastFirst (length xs) sizes) * m ≤ length table) where
@@ -67,43 +60,6 @@ module _ (filling sizes : List ℕ) (xs : List Float) (m : ℕ) (laid : Promised
 
     pub inks-done : (cs : List Cell) → cs ≡ inks n → (old now : List Float) → now ≡ written (answer table cs) m old → now ≡ written (answerIn gs m table xs) m old
     inks-done cs e old now w = w ∙ written-same _ _ m old (λ o h. ap (λ (l : List Cell). answer table l o) e ∙ answers o)
-
-  -- three inks and more
-  module _ (from : 3 ≤ length xs) (cx cy cz : Cell) (first : cz ∷ cy ∷ cx ∷ [] ≡ inks 3) where
-    abbrev others : List Cell
-    others = furtherInks filling sizes xs (length xs - 3)
-
-    count : length xs ≡ suc (suc (suc (length xs - 3)))
-    count = omega arith
-
-    split : others ++ (cz ∷ cy ∷ cx ∷ []) ≡ inks (suc (suc (suc (length xs - 3))))
-    split = ap (λ (cs : List Cell). others ++ cs) first ∙ further filling sizes xs (length xs - 3)
-
-    pub all-reach : reach others + reach (cz ∷ cy ∷ cx ∷ []) + m ≤ length table
-    all-reach = omega (arith, inks-reach (suc (suc (suc (length xs - 3)))) count (others ++ (cz ∷ cy ∷ cx ∷ [])) split, reach-over others (cz ∷ cy ∷ cx ∷ []))
-
-    module _ (p : List ℕ) (plans : Plans cx cy cz p) where
-      pub plan-inside : Inside p (reach others + m) (length table)
-      plan-inside k = omega (arith, plans .reached k, all-reach)
-
-      abbrev by-plan : ℕ → Float
-      by-plan o = above (planned p (cx .w ∷ cy .w ∷ cz .w ∷ []) o) others table
-
-      pub plan-done : (r : ℕ) (old now : List Float) → now ≡ left r by-plan m old → now ≡ left r (answerIn gs m table xs) m old
-      plan-done r old now w =
-          w
-          ∙ left-same r by-plan (answerIn gs m table xs) m old
-          (inks-done (suc (suc (suc (length xs - 3)))) count (others ++ (cz ∷ cy ∷ cx ∷ [])) split old (written by-plan m old)
-          (written-same _ _ m old (λ o h. above-answer cx cy cz o (planned p (cx .w ∷ cy .w ∷ cz .w ∷ []) o) (λ part. plans .answers part o) others table)))
-
-      -- exactly three
-      module _ (three : length xs ≡ 3) where
-        pub three-inside : Inside p m (length table)
-        three-inside k = omega (arith, plan-inside k, ap (λ (n : ℕ). reach (furtherInks filling sizes xs (n - 3))) three)
-
-        pub three-done : (old now : List Float) → now ≡ written (λ o. planned p (cx .w ∷ cy .w ∷ cz .w ∷ []) o table) m old → now ≡ written (answerIn gs m table xs) m old
-        three-done old now w =
-            plan-done 0 old now (w ∙ ap (λ (n : ℕ). written (λ o. above (planned p (cx .w ∷ cy .w ∷ cz .w ∷ []) o) (furtherInks filling sizes xs (n - 3)) table) m old) (sym three))
 
 -- ---- what a layout's record promises
 

@@ -38,7 +38,3 @@ reach-total (g ∷ gs) xs m some bytes =
     let c = inkCell (length gs) g (getD xs (length gs) nan) in
     one-more (c .x) (c .«x_n») g m (product gs) (reach (scaled (strides (m * g) gs) (cells gs xs))) (omega (arith, on .lower)) (omega (arith, on .upper))
     (reach-total gs xs (m * g) (every-rest (ltb 0) g gs some) (every-rest (λ k. ltb k 256) g gs bytes))
-
--- the nodes of an ink's cell are below the size, so a byte
-pub cell-below : (c : Cell) (i g : ℕ) (x : Float) → c ≡ inkCell i g x → g < 256 → (c .x < 256) × (c .«x_n» < 256)
-cell-below c i g x is byte = let on = ink-on-grid x g byte i in rw is (omega (arith, on .lower), omega (arith, on .upper))

@@ -12,7 +12,7 @@ use Rattle.lists.proofs.Buffer.{length-written, written-next, written-past}
 use Rattle.lookup.proofs.Room.{Room}
 
 -- after o of m turns the buffer, which was `old`, is `now`
-pub record Turned (f : ℕ → Float) (m : ℕ) (old now : List Float) (o : ℕ) : Type 0 where
+pub record Turned {A : Type 0} (f : ℕ → A) (m : ℕ) (old now : List A) (o : ℕ) : Type 0 where
   pub most : o ≤ m
   pub room : length now ≡ length old
   pub set-to : now ≡ written f o old
@@ -24,33 +24,26 @@ pub record Turn (m o n : ℕ) : Type 0 where
   pub next : Fits w64 (o + 1)
   pub fewer : m - (o + 1) < m - o
 
-module _ (f : ℕ → Float) (m : ℕ) (old : List Float) where
+module _ {A : Type 0} (f : ℕ → A) (m : ℕ) (old : List A) where
   pub turned-none : Turned f m old old 0
   unfolding written
   turned-none = record { most = omega arith; room = refl; set-to = refl }
 
-  module _ (now : List Float) (o : ℕ) (turned : Turned f m old now o) where
+  module _ (now : List A) (o : ℕ) (turned : Turned f m old now o) where
     pub a-turn : o < m → m ≤ length old → Room (length old) → Turn m o (length now)
     a-turn less enough room = record { bytes = omega arith; inside = omega arith; next = omega arith; fewer = omega arith }
 
-    pub turned-more : o < m → (v : Float) → v ≡ f o → Turned f m old (set now o v) (o + 1)
+    pub turned-more : o < m → (v : A) → v ≡ f o → Turned f m old (set now o v) (o + 1)
     turned-more less v is =
         record {
           most = omega arith;
           room = simp length-set (turned .room);
-          set-to = ap₂ (λ (l : List Float) (x : Float). set l o x) (turned .set-to) is ∙ written-next f o old;
+          set-to = ap₂ (λ (l : List A) (x : A). set l o x) (turned .set-to) is ∙ written-next f o old;
         }
 
     pub turned-all : m ≤ o → now ≡ written f m old
     turned-all all = let same : o ≡ m = omega arith in turned .set-to ∙ ap (λ (k : ℕ). written f k old) same
 
-    -- an entry that no turn has set
-    pub not-yet : (k : ℕ) → o ≤ k → getD now k nan ≡ getD old k nan
-    not-yet k h = ap (λ (l : List Float). getD l k nan) (turned .set-to) ∙ written-past f o old k nan h
-
 -- a buffer that was written is as long as before
 pub same-room : (f : ℕ → Float) (m : ℕ) (old now : List Float) → now ≡ written f m old → length now ≡ length old
 same-room f m old now e = ap length e ∙ length-written f m old
-
-pub room-kept : (f : ℕ → Float) (m : ℕ) (old now : List Float) → now ≡ written f m old → {k : ℕ} → k ≤ length old → k ≤ length now
-room-kept f m old now e {k} h = subst (λ (n : ℕ). k ≤ n) (sym (same-room f m old now e)) h

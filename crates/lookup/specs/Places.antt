@@ -11,7 +11,7 @@ use Rattle.binary32.specs.Blend.{lerp, terms, rise}
 use Rattle.lists.specs.Lists.{lastFirst, product}
 use Rattle.lists.specs.Buffer.{left}
 use Rattle.cell.specs.declared.Cell.{Cell}
-use Rattle.cell.specs.Rule.{inkCell}
+use Rattle.cell.specs.Rule.{inkCell, scale}
 use Rattle.layout.specs.Order.{index, Steps}
 use Rattle.layout.specs.Lengths.{lengthRefusal}
 use Rattle.lookup.specs.Lookup.{Grid, node, lookup}
@@ -51,55 +51,11 @@ distances [] ks = []
 distances (s ∷ ss) [] = []
 distances (s ∷ ss) (k ∷ ks) = k * s ∷ distances ss ks
 
--- a cell by its distances, and the cells of all inks
-abbrev pub scale : ℕ → Cell → Cell
-scale s c = record { x = c .x * s; «x_n» = c .«x_n» * s; w = c .w }
-
+-- the cells of all inks, by their distances
 abbrev pub scaled : List ℕ → List Cell → List Cell
 scaled [] cs = []
 scaled (s ∷ ss) [] = []
 scaled (s ∷ ss) (c ∷ cs) = scale s c ∷ scaled ss cs
-
--- A plan of three inks: the distance of c0, and of the two nodes whose difference is multiplied by the weight of ink 1, of ink 2 and of ink 3, the upper one
--- first. `at i j k` is the distance of a corner of the cube; the tests are x ≥ y, y ≥ z and x ≥ z of the weights. Where an ink moves, those of a larger weight
--- have moved already.
-abbrev pub planBy : (Bool → Bool → Bool → ℕ) → Bool → Bool → Bool → List ℕ
-planBy at xy yz xz =
-    at false false false
-    ∷ at true (not xy) (not xz)
-    ∷ at false (not xy) (not xz)
-    ∷ at xy true (not yz)
-    ∷ at xy false (not yz)
-    ∷ at xz yz true
-    ∷ at xz yz false
-    ∷ []
-
-abbrev pub corner : Cell → Cell → Cell → Bool → Bool → Bool → ℕ
-corner cx cy cz i j k = node cx i + node cy j + node cz k
-
--- the plan of the cells of ink 1, 2 and 3
-abbrev pub planOf : Cell → Cell → Cell → List ℕ
-planOf cx cy cz = planBy (corner cx cy cz) (le (cy .w) (cx .w)) (le (cz .w) (cy .w)) (le (cz .w) (cx .w))
-
--- what a plan gives at output o in a part of the table, with the weights r of ink 1, 2 and 3: c0, and the three terms
-abbrev pub planned : List ℕ → List Float → ℕ → List Float → Float
-planned p r o part =
-    let at : ℕ → Float = λ k. getD part (getD p k 0 + o) nan in
-    terms (at 0) (rise (at 2) (at 1)) (rise (at 4) (at 3)) (rise (at 6) (at 5)) (getD r 0 nan) (getD r 1 nan) (getD r 2 nan)
-
--- each entry of a plan leaves room for m more in a part of n entries
-abbrev pub Inside : List ℕ → ℕ → ℕ → Type 0
-Inside p m n = (k : ℕ) → getD p k 0 + m ≤ n
-
--- p serves as the plan of the cells of ink 1, 2 and 3, in every part
-pub record Plans (cx cy cz : Cell) (p : List ℕ) : Type 0 where
-  pub reached : (k : ℕ) → getD p k 0 ≤ reach (cz ∷ cy ∷ cx ∷ [])
-  pub answers : (part : List Float) (o : ℕ) → planned p (cx .w ∷ cy .w ∷ cz .w ∷ []) o part ≡ lookup (within part o) (cz ∷ cy ∷ cx ∷ [])
-
--- further inks, last ink first, above what `three` gives in a part of the table: along the last one, between the parts at its nodes
-abbrev pub above : (List Float → Float) → List Cell → List Float → Float
-above three [] part = three part
-above three (h ∷ hs) part = lerp (above three hs (drop (h .x) part)) (above three hs (drop (h .«x_n») part)) (h .w)
 
 -- the answer at output o of cells in a part of the table
 abbrev pub answer : List Float → List Cell → ℕ → Float
@@ -107,17 +63,13 @@ answer part cs o = lookup (within part o) cs
 
 -- ---- a grid with a size and a filling size for each ink, first ink first
 
--- ink i, counted from 0; the first n inks, last ink first; and the k inks from the fourth on
+-- ink i, counted from 0, and the first n inks, last ink first
 abbrev pub placedInk : List ℕ → List ℕ → List Float → ℕ → Cell
 placedInk filling sizes xs i = scale (getD filling i 0) (inkCell i (getD sizes i 0) (getD xs i nan))
 
 abbrev pub firstInks : List ℕ → List ℕ → List Float → ℕ → List Cell
 firstInks filling sizes xs zero = []
 firstInks filling sizes xs (suc i) = placedInk filling sizes xs i ∷ firstInks filling sizes xs i
-
-abbrev pub furtherInks : List ℕ → List ℕ → List Float → ℕ → List Cell
-furtherInks filling sizes xs zero = []
-furtherInks filling sizes xs (suc i) = placedInk filling sizes xs (suc (suc (suc i))) ∷ furtherInks filling sizes xs i
 
 -- the filling sizes of the first n inks are of 32 bits, and their sizes are bytes
 abbrev pub Narrow : List ℕ → List ℕ → ℕ → Type 0
@@ -145,6 +97,10 @@ NoNans xs n = (i : ℕ) → i < n → isNan (getD xs i nan) ≡ false
 pub record Settled (answer : ℕ → Float) (m : ℕ) (inputs old : List Float) (r : ℕ) (now : List Float) : Type 0 where
   pub number : r ≡ nanRefusal inputs
   pub entries : now ≡ left r answer m old
+
+-- the same in a grid of the sizes of the inks, first ink first
+abbrev pub SettledIn : List ℕ → ℕ → List Float → List Float → List Float → ℕ → List Float → Type 0
+SettledIn sizes m table inputs old r now = Settled (answerIn (lastFirst (length inputs) sizes) m table inputs) m inputs old r now
 
 -- what is owed after an accepted layout: the number r, and the answer buffer afterwards, `now`, which was `old`
 pub record Answered (gs : List ℕ) (n m : ℕ) (table inputs old : List Float) (r : ℕ) (now : List Float) : Type 0 where

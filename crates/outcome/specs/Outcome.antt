@@ -1,4 +1,5 @@
--- That a function's statement leaves one outcome: its result, and what stands behind each lent `&mut` as it returns. A NaN has no payload here.
+-- That a function's statement leaves one outcome, its result and what stands behind each lent `&mut` as it returns, and that two functions have the same. A NaN
+-- has no payload here.
 -- What a number says of an outcome: 0 is done, any other a refusal.
 -- Definitions only.
 use Prim.Native.Nat.{ℕ, zero, suc}
@@ -9,18 +10,26 @@ use borrow.Fn.Kinds.{PK, RK, Out, Dens, endedOf, resT}
 use contract.Lifetimes.{Lfts}
 use denote.Triple.Clauses.{Lasts, atExit}
 
--- At the same arguments a, two outcomes that satisfy the generated reading of the `ensures` are equal: what is seen of the results x and y, and the
--- last values ws and vs.
-abbrev pub OneOutcomeSeen : (n : ℕ) (ps : List (PK n)) (r : RK n) (Seen : Lfts n → Type 0) (seen : (κs : Lfts n) → resT r κs .Denot → Seen κs) → Out n ps r → Type 0
-OneOutcomeSeen n ps r Seen seen Post =
+-- At the same arguments a, an outcome that satisfies the first reading of an `ensures` and one that satisfies the second are equal: what is seen of the
+-- results x and y, and the last values ws and vs.
+abbrev pub AgreeSeen : (n : ℕ) (ps : List (PK n)) (r : RK n) (Seen : Lfts n → Type 0) (seen : (κs : Lfts n) → resT r κs .Denot → Seen κs) → Out n ps r → Out n ps r → Type 0
+AgreeSeen n ps r Seen seen First Second =
     (κs : Lfts n) (a : Dens κs ps) (x y : resT r κs .Denot) (ws vs : Lasts (endedOf n ps r) κs a)
-    → Post κs a x (atExit (endedOf n ps r) κs a ws)
-    → Post κs a y (atExit (endedOf n ps r) κs a vs)
+    → First κs a x (atExit (endedOf n ps r) κs a ws)
+    → Second κs a y (atExit (endedOf n ps r) κs a vs)
     → (seen κs x ≡ seen κs y) × (ws ≡ vs)
 
--- A result is seen whole. (Of a part that is handed back only its entries are seen, `λ κs z. z .now`: a statement fixes no pointer.)
+-- Two functions of the same parameters have the same outcomes. A result is seen whole. (Of a part that is handed back only its entries are seen,
+-- `λ κs z. z .now`: a statement fixes no pointer.)
+abbrev pub Agree : (n : ℕ) (ps : List (PK n)) (r : RK n) → Out n ps r → Out n ps r → Type 0
+Agree n ps r First Second = AgreeSeen n ps r (λ κs. resT r κs .Denot) (λ κs z. z) First Second
+
+-- A statement that agrees with itself leaves one outcome.
+abbrev pub OneOutcomeSeen : (n : ℕ) (ps : List (PK n)) (r : RK n) (Seen : Lfts n → Type 0) (seen : (κs : Lfts n) → resT r κs .Denot → Seen κs) → Out n ps r → Type 0
+OneOutcomeSeen n ps r Seen seen Post = AgreeSeen n ps r Seen seen Post Post
+
 abbrev pub OneOutcome : (n : ℕ) (ps : List (PK n)) (r : RK n) → Out n ps r → Type 0
-OneOutcome n ps r Post = OneOutcomeSeen n ps r (λ κs. resT r κs .Denot) (λ κs z. z) Post
+OneOutcome n ps r Post = Agree n ps r Post Post
 
 -- b is true exactly when the claim holds
 pub record Decides (b : Bool) (Claim : Type 0) : Type 0 where

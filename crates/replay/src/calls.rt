@@ -5,6 +5,7 @@ use crate::record;
 use crate::slabs;
 use crate::words;
 use layout::MultidimensionalLut;
+use libc::STDOUT_FILENO;
 
 pub(crate) fn layout() {
     let laid = record::laid();
@@ -25,14 +26,22 @@ pub(crate) fn tabled(kind: usize, lut: MultidimensionalLut) {
     }
 }
 
+// Both engines' answers with equal buffers. The first one's are printed; where walk's differ that is said, and they follow.
 fn lookup(lut: MultidimensionalLut, table: &[f32]) {
     let n = words::count(4096);
     let inputs = floats::buffer(true, n);
     let r = words::count(4096);
     let mut buffer = floats::buffer(true, r);
+    let mut walked = buffer;
     let left = &mut buffer[..r];
     let number = lookup::lookup(lut, table, &inputs[..n], left);
     print::answer(number, left);
+    let other = &mut walked[..r];
+    let again = walk::lookup(lut, table, &inputs[..n], other);
+    if again != number || !floats::same(left, other) {
+        io::write_all(STDOUT_FILENO, b" engines differ: ");
+        print::answer(again, other);
+    }
 }
 
 fn node(lut: MultidimensionalLut, table: &[f32]) {

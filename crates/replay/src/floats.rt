@@ -65,3 +65,16 @@ pub(crate) fn room() -> [f32; 40000]
 {
     [0.0; 40000]
 }
+
+// Whether two parts have the same bits, NaN without its payload.
+pub(crate) fn same(one: &[f32], other: &[f32]) -> bool {
+    if one.len() != other.len() {
+        return false;
+    }
+    for i in 0..one.len() {
+        if patterns::bits(one[i]) != patterns::bits(other[i]) {
+            return false;
+        }
+    }
+    true
+}

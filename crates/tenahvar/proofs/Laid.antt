@@ -1,13 +1,11 @@
--- A layout that gives 0: its record is a layout's, and what the node reader and a cut say of that record is what the caller through C is owed.
+-- A layout that gives 0: what the node reader and a cut say of that record is what the caller through C is owed.
 -- Assumes nothing.
 use Prim.Native.Nat.{ℕ, _*_}
-use mathlib.Core.Path.{_≡_, sym, ap, _∙_, subst}
+use mathlib.Core.Path.{_≡_, sym, ap, _∙_}
 use mathlib.Core.Bool.{Bool, true}
 use mathlib.Core.List.{List, reverse}
-use lib.Dec.{T}
 use lib.Ieee.{Float, nan}
 use lib.ListN.{length, getD}
-use lib.Pow.{areBytes}
 use Rattle.outcome.specs.Outcome.{orElse, onDone}
 use Rattle.outcome.proofs.Refused.{kept, given}
 use Rattle.lists.specs.Buffer.{left}
@@ -15,7 +13,7 @@ use Rattle.layout.specs.declared.MultidimensionalLut.{MultidimensionalLut}
 use Rattle.layout.specs.declared.Laid.{Laid}
 use Rattle.layout.specs.Order.{index}
 use Rattle.layout.specs.Layout.{laidOf, IsLayout, inkSizes, entries}
-use Rattle.layout.proofs.BySizes.{laid-is-layout, laid-outputs}
+use Rattle.layout.proofs.BySizes.{laid-outputs}
 use Rattle.nodes.specs.Node.{nodeRefusal, NodeRefused, NodePlaced}
 use Rattle.slab.specs.Slab.{fewer, slab, refusal, SlabCut}
 use Rattle.tenahvar.specs.Slab.{slabNumber, SlabTaken}
@@ -24,9 +22,6 @@ use Rattle.tenahvar.specs.Node.{nodeNumber, NodeFound}
 module _ (sizes : List ℕ) (n m : ℕ) (laid : Laid) (answer : laid ≡ laidOf sizes n m) (no-refusal : laid .refusal ≡ 0) where
   accepted : laidOf sizes n m .refusal ≡ 0
   accepted = ap (λ (l : Laid). l .refusal) (sym answer) ∙ no-refusal
-
-  pub is-layout : length sizes ≡ 16 → T (areBytes sizes) → IsLayout (laid .lut)
-  is-layout sixteen bytes = subst (λ (l : Laid). IsLayout (l .lut)) (sym answer) (laid-is-layout sizes n m accepted sixteen bytes)
 
   -- what the record refuses is refused after the layout
   after-layout : (refuses : MultidimensionalLut → ℕ) (r : ℕ) → r ≡ refuses (laid .lut) → r ≡ orElse (laidOf sizes n m .refusal) (refuses (laidOf sizes n m .lut))

@@ -5,6 +5,7 @@ use mathlib.Core.Path.{_≡_, sym, ap, _∙_}
 use mathlib.Core.List.{List}
 use lib.Ieee.{Float}
 use Rattle.outcome.specs.Outcome.{OneOutcome}
+use Rattle.lookup.proofs.Unique.{lookup-by-sizes-unique}
 use Rattle.lists.specs.Buffer.{left}
 use Rattle.cell.specs.declared.Cell.{Cell}
 use Rattle.cubes.specs.Blends.{Blend}
@@ -46,9 +47,7 @@ tenahvar-total-unique κs a x y ws vs p q =
     (p .number ∙ sym (q .number), λ i. (tt, (tt, (tt, (total i, tt)))))
 
 pub tenahvar-lookup-unique : OneOutcome 4 lookup-kinds.ps lookup-kinds.r lookup-reads.Post
-tenahvar-lookup-unique κs a x y ws vs p q =
-    let entries = p .entries ∙ sym (q .entries) in
-    (p .number ∙ sym (q .number), λ i. (tt, (tt, (tt, (tt, (tt, (entries i, tt)))))))
+tenahvar-lookup-unique = lookup-by-sizes-unique
 
 pub tenahvar-node-unique : OneOutcome 4 node-kinds.ps node-kinds.r node-reads.Post
 tenahvar-node-unique κs a x y ws vs p q =

@@ -4,8 +4,7 @@ use mathlib.Core.Path.{_≡_}
 use mathlib.Core.List.{List}
 use lib.Ieee.{Float}
 use Rattle.outcome.specs.Outcome.{onDone}
-use Rattle.layout.specs.declared.Laid.{Laid}
-use Rattle.layout.specs.Layout.{laidOf, IsLayout, entries}
+use Rattle.layout.specs.Layout.{laidOf, entries}
 
 -- what `tenahvar_layout` owes: its number r, and the three rows afterwards, s, f and c, which were s₀, f₀ and c₀
 pub record LaidOut (sizes : List ℕ) (n m : ℕ) (s₀ f₀ : List ℕ) (c₀ : List Float) (r : ℕ) (s f : List ℕ) (c : List Float) : Type 0 where
@@ -18,8 +17,3 @@ pub record LaidOut (sizes : List ℕ) (n m : ℕ) (s₀ f₀ : List ℕ) (c₀ :
 pub record Totalled (sizes : List ℕ) (n m old r now : ℕ) : Type 0 where
   pub number : r ≡ laidOf sizes n m .refusal
   pub total : now ≡ onDone (laidOf sizes n m .refusal) (entries (laidOf sizes n m .lut)) old
-
--- a layout's answer, and that its record is a layout's where no refusal is given
-pub record LaidBy (sizes : List ℕ) (n m : ℕ) (laid : Laid) : Type 0 where
-  pub answer : laid ≡ laidOf sizes n m
-  pub accepted : laid .refusal ≡ 0 → IsLayout (laid .lut)

@@ -1,8 +1,7 @@
 // The C interface: thin calls of the crates below, on numbers, slices and arrays. What each owes is in specs/.
 use cell::Cell;
-use layout::Laid;
 ghost use Rattle.cubes.specs.Blends.{pyramid, prism, trilinear};
-ghost use Rattle.tenahvar.specs.Layout.{LaidOut, LaidBy, Totalled};
+ghost use Rattle.tenahvar.specs.Layout.{LaidOut, Totalled};
 ghost use Rattle.lookup.specs.Table.{LookedBySizes};
 ghost use Rattle.tenahvar.specs.Node.{NodeFound};
 ghost use Rattle.tenahvar.specs.Slab.{SlabTaken};
@@ -42,19 +41,12 @@ pub extern "C" fn tenahvar_layout(
 pub extern "C" fn tenahvar_total(sizes: &[u8; 16], n: usize, m: usize, total: &mut u64) -> u32
     ensures { λ r. ⌜ Totalled (now (sizes .entry)) n m (now (total .entry)) r (now (total .exit)) ⌝ }
 {
-    let laid = laid_out(*sizes, n, m);
+    let laid = layout::layout(*sizes, n, m);
     if laid.refusal != 0 {
         return laid.refusal;
     }
     *total = layout::entry_count(laid.lut);
     0
-}
-
-// The layout of sizes by value: where it gives 0 its record is a layout's.
-fn laid_out(sizes: [u8; 16], n: usize, m: usize) -> Laid
-    ensures { λ r. ⌜ LaidBy sizes n m r ⌝ }
-{
-    layout::layout(sizes, n, m)
 }
 
 // Lays out, then looks up: refusals 1, 2, 3, 5, then 6, 7, 8, 16. On 0 the first m entries of `answer` are set.
@@ -69,7 +61,7 @@ pub extern "C" fn tenahvar_lookup(
 ) -> u32
     ensures { λ r. ⌜ LookedBySizes (now (sizes .entry)) n m (now (table .entry)) (now (inputs .entry)) (now (answer .entry)) r (now (answer .exit)) ⌝ }
 {
-    lookup::lookup_by_sizes(sizes, n, m, table, inputs, answer)
+    walk::lookup_by_sizes(sizes, n, m, table, inputs, answer)
 }
 
 // Lays out, then finds the node: refusals 1, 2, 3, 5, then 6, 7, 10. On 0 `offset` is where its m entries start in the table.
@@ -84,7 +76,7 @@ pub extern "C" fn tenahvar_node(
 ) -> u32
     ensures { λ r. ⌜ NodeFound (now (sizes .entry)) n m (now (table .entry)) (now (coordinates .entry)) (now (offset .entry)) r (now (offset .exit)) ⌝ }
 {
-    let grid = laid_out(*sizes, n, m);
+    let grid = layout::layout(*sizes, n, m);
     if grid.refusal != 0 {
         return grid.refusal;
     }
@@ -112,7 +104,7 @@ pub extern "C" fn tenahvar_cut_slab(
 ) -> u32
     ensures { λ r. ⌜ SlabTaken (now (sizes .entry)) n m (now (table .entry)) j k (now (slab .entry)) r (now (slab .exit)) ⌝ }
 {
-    let whole = laid_out(*sizes, n, m);
+    let whole = layout::layout(*sizes, n, m);
     if whole.refusal != 0 {
         return whole.refusal;
     }

@@ -20,7 +20,7 @@ use Rattle.clut.proofs.read_clut.Statement.{statement}
 use Rattle.clut.proofs.read_clut.Tie as tie
 
 laid : (c : tie.After-layout) → let a = c .before .before .before .before .before .args in c .layout .result ≡ layoutOf (a .element .now) (a .n) (a .m)
-laid c = let a = c .before .before .before .before .before .args in c .layout .ensures ∙ ap (λ (sizes : List ℕ). laidOf sizes (a .n) (a .m)) (c .before .sizes-of .ensures)
+laid c = let a = c .before .before .before .before .before .args in c .layout .ensures .answer ∙ ap (λ (sizes : List ℕ). laidOf sizes (a .n) (a .m)) (c .before .sizes-of .ensures)
 
 accepted : (c : tie.Else2) → let a = c .before .before .before .before .before .before .before .args in layoutOf (a .element .now) (a .n) (a .m) .refusal ≡ 0
 accepted c = ap (λ (l : Laid). l .refusal) (sym (laid (c .before .before))) ∙ c .if2 .left

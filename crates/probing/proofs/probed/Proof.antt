@@ -22,7 +22,7 @@ asked c =
       g-is = c .before .before .before .byte-at .ensures;
       n-is = c .before .before .byte-at2 .ensures;
       m-is = c .before .byte-at3 .ensures;
-      laid-is = c .layout .ensures;
+      laid-is = c .layout .ensures .answer;
     }
 
 byte : (c : tie.After-layout) → c .before .before .before .byte-at .result < 256

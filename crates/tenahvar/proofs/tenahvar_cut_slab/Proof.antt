@@ -15,11 +15,11 @@ tenahvar-cut-slab-spec =
     (λ c κs. search needs)
     (λ c.
     let refused = c .if1 .taken in
-    let number = refused-first _ _ refused (ap (λ (l : Laid). l .refusal) (c .before .before .laid-out .ensures .answer)) in
+    let number = refused-first _ _ refused (ap (λ (l : Laid). l .refusal) (c .before .before .layout .ensures .answer)) in
     record { number = number; entries = unwritten _ _ _ _ refused number })
     (λ c κs. search needs)
     (λ c. search needs)
     (λ c.
     let none = c .before .before .before .before .if1 .left in
-    let laid = c .before .before .before .before .before .before .laid-out in
+    let laid = c .before .before .before .before .before .before .layout in
     slab-taken _ _ _ (laid .result) (laid .ensures .answer) none (laid .ensures .accepted none) _ _ _ _ _ _ (c .before .before .cut-slab .ensures)))

@@ -14,10 +14,10 @@ tenahvar-layout-spec =
     (λ c κs. search needs)
     (λ c.
     let refused = c .if1 .taken in
-    let number = ap (λ (l : Laid). l .refusal) (c .before .before .layout .ensures) in
+    let number = ap (λ (l : Laid). l .refusal) (c .before .before .layout .ensures .answer) in
     record { number = number; strides = kept _ _ _ refused number; filling = kept _ _ _ refused number; scale = kept _ _ _ refused number })
     (λ c.
-    let laid = c .before .before .before .before .before .before .layout .ensures in
+    let laid = c .before .before .before .before .before .before .layout .ensures .answer in
     let done = sym (c .before .before .before .before .if1 .left) ∙ ap (λ (l : Laid). l .refusal) laid in
     record {
       number = done;

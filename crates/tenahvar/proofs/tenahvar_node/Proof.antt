@@ -15,15 +15,15 @@ tenahvar-node-spec =
     (λ c κs. search needs)
     (λ c.
     let refused = c .if1 .taken in
-    let number = refused-first _ _ refused (ap (λ (l : Laid). l .refusal) (c .before .before .laid-out .ensures .answer)) in
+    let number = refused-first _ _ refused (ap (λ (l : Laid). l .refusal) (c .before .before .layout .ensures .answer)) in
     record { number = number; offset = kept _ _ _ refused number })
     (λ c κs. search needs)
     (λ c.
     let none = c .before .before .before .if1 .left in
-    let laid = c .before .before .before .before .before .laid-out in
+    let laid = c .before .before .before .before .before .layout in
     node-refused _ _ _ (laid .result) (laid .ensures .answer) none (laid .ensures .accepted none) _ _ _ (c .before .node-refusal .ensures) _ (c .if2 .taken))
     (λ c κs. search needs)
     (λ c.
     let none = c .before .before .before .before .if1 .left in
-    let laid = c .before .before .before .before .before .before .laid-out in
+    let laid = c .before .before .before .before .before .before .layout in
     node-found _ _ _ (laid .result) (laid .ensures .answer) none (laid .ensures .accepted none) _ _ _ (c .before .before .node-refusal .ensures) (c .before .if2 .left) _ (c .node-offset .ensures) _))

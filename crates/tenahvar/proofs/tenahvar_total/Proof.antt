@@ -13,10 +13,10 @@ tenahvar-total-spec =
     tie.close
     (tie.spec
     (λ c κs. search needs)
-    (λ c. let number = ap (λ (l : Laid). l .refusal) (c .before .before .laid-out .ensures .answer) in
+    (λ c. let number = ap (λ (l : Laid). l .refusal) (c .before .before .layout .ensures .answer) in
     record { number = number; total = kept _ _ _ (c .if1 .taken) number })
     (λ c κs. search needs)
-    (λ c. let laid = c .before .before .before .laid-out in
+    (λ c. let laid = c .before .before .before .layout in
     let none = c .before .if1 .left in
     let number = sym none ∙ ap (λ (l : Laid). l .refusal) (laid .ensures .answer) in
     record {

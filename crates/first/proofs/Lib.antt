@@ -1,0 +1,2 @@
+-- `Unique` has that the statement leaves one outcome.
+pub mod Unique

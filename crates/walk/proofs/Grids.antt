@@ -1,0 +1,137 @@
+-- The inks of an accepted layout by their steps: within the table, and the answers are those of the table. Assumes nothing.
+use Prim.Native.Nat.{ℕ, zero, suc, _+_, _-_, _*_, _<_, _≤_}
+use native.Mathlib.Omega.{arith}
+use native.Mathlib.Nat.{zero-add}
+use native.Mathlib.Decide.{decLt}
+use mathlib.Core.Path.{_≡_, refl, ap, sym, subst, _∙_}
+use mathlib.Core.Bool.{false}
+use mathlib.Core.List.{List, [], _∷_, _++_}
+use lib.Ieee.{Float, nan, isNan}
+use lib.ListN.{length, getD, take, drop, length-drop, length-append, List·getD-append}
+use lib.Seq.{length-take-le, getD-drop, getD-append-add}
+use Rattle.binary32.specs.Range.{Below}
+use Rattle.lists.specs.Lists.{some, lastFirst, product}
+use Rattle.lists.specs.Buffer.{written}
+use Rattle.lists.proofs.Buffer.{written-is}
+use Rattle.cell.specs.declared.Cell.{Cell}
+use Rattle.lookup.specs.Places.{reach, firstInks, answer, Promised, answerIn, Settled}
+use Rattle.lookup.proofs.Part.{from-length}
+use Rattle.walk.specs.declared.Plan.{Plan}
+use Rattle.walk.specs.Blocks.{Gives}
+use Rattle.walk.specs.Steps.{stepCell, stepsAt, stepped, lows, Weighed, planFor, tetraOf, Near}
+use Rattle.walk.specs.Walk.{above}
+use Rattle.walk.proofs.Above.{above-answer, reach-over}
+use Rattle.walk.proofs.Tetrahedron.{near, plan-answers}
+use Rattle.walk.proofs.Reading.{Proper, cells-proper, cells-reach, cells-done}
+use Rattle.walk.proofs.Stepping.{stepped-answer, stepped-reach}
+
+-- ---- the weights in an array
+
+abbrev first-weight : List Cell → Float
+first-weight [] = nan
+first-weight (c ∷ cs) = c .w
+
+abbrev others : List Cell → List Cell
+others [] = []
+others (c ∷ cs) = cs
+
+weighed : (step : List ℕ) (w : List Float) (n : ℕ) (cs : List Cell) → Proper cs → stepsAt step w 0 n ≡ stepped cs → Weighed w n
+weighed step w zero cs proper is i h = absurd (omega arith)
+weighed step w (suc n) [] proper is i h = absurd (let e = ap length is in omega (arith, e))
+weighed step w (suc n) (c ∷ cs) proper is i h =
+    elim (decLt i n) [
+      | yes low ↦ weighed step w n cs (proper .1) (ap others is) i low
+      | no high ↦
+          let last : i ≡ n = omega arith in
+          rw last (subst (λ (t : Float). Below 1 t) (sym (ap (λ (k : ℕ). getD w k nan) (sym (zero-add n)) ∙ ap first-weight is)) (proper .0 .1))
+    ]
+
+-- ---- the first m entries of a buffer, lent and given
+
+pub prefix-length : (m : ℕ) (old part : List Float) → m ≤ length old → length part ≡ m → length (part ++ drop m old) ≡ length old
+prefix-length m old part room count = length-append part (drop m old) ∙ (let e = length-drop m old in omega (arith, count, e))
+
+pub prefix-count : (m : ℕ) (old : List Float) → m ≤ length old → length (take m old) ≡ m
+prefix-count m old room = length-take-le m old room
+
+pub prefix-written : (f : ℕ → Float) (m : ℕ) (old part : List Float) → m ≤ length old → Gives f m (take m old) part → part ++ drop m old ≡ written f m old
+prefix-written f m old part room gives =
+    written-is f m old (part ++ drop m old) nan room (prefix-length m old part room count)
+    (λ k h. List·getD-append part (drop m old) nan k (omega (arith, count)) ∙ gives .answers k h)
+    (λ k h. let e : k ≡ length part + (k - m) = omega (arith, count) in
+    let f : m + (k - m) ≡ k = omega arith in
+    ap (λ (i : ℕ). getD (part ++ drop m old) i nan) e ∙ getD-append-add part (drop m old) (k - m) nan ∙ getD-drop m old (k - m) nan ∙ ap (λ (i : ℕ). getD old i nan) f)
+  where
+    count : length part ≡ m
+    count = gives .room ∙ length-take-le m old room
+
+-- ---- all inks
+
+module _ (filling sizes : List ℕ) (xs : List Float) (m : ℕ) (laid : Promised filling sizes (length xs) m) (table : List Float)
+    (enough : product (lastFirst (length xs) sizes) * m ≤ length table) (n : ℕ) (is : length xs ≡ n) (cs : List Cell) (are : cs ≡ firstInks filling sizes xs n) where
+  proper : Proper cs
+  proper = cells-proper filling sizes xs m laid table enough n cs are (omega arith)
+
+  -- the part from the lowest corner on
+  module _ (at : ℕ) (base : at ≡ lows cs) where
+    pub part-starts : at + m ≤ length table
+    part-starts = omega (arith, base, stepped-reach cs proper, cells-reach filling sizes xs m laid table enough n cs are (omega arith))
+
+    pub part-reach : reach (stepped cs) + m ≤ length (take (length table - at) (drop at table))
+    part-reach = rw from-length (omega (arith, base, stepped-reach cs proper, cells-reach filling sizes xs m laid table enough n cs are (omega arith)))
+
+    pub part-answers : (o : ℕ) → answer (take (length table - at) (drop at table)) (stepped cs) o ≡ answer table cs o
+    part-answers o = ap (λ (a : ℕ). answer (take (length table - a) (drop a table)) (stepped cs) o) base ∙ stepped-answer table cs proper o
+
+    -- the inks in arrays
+    module _ (step : List ℕ) (w : List Float) (steps : stepsAt step w 0 n ≡ stepped cs) where
+      pub array-weights : Weighed w n
+      array-weights = weighed step w n cs proper steps
+
+      pub array-reach : reach (stepsAt step w 0 n) + m ≤ length (take (length table - at) (drop at table))
+      array-reach = rw steps part-reach
+
+      pub array-done : some isNan xs ≡ false → (old part : List Float) → m ≤ length old → Gives (answer (take (length table - at) (drop at table)) (stepsAt step w 0 n)) m (take m old) part
+          → Settled (answerIn (lastFirst (length xs) sizes) m table xs) m xs old 0 (part ++ drop m old)
+      array-done none old part room gives =
+          cells-done filling sizes xs m laid table enough n cs are is none (answer table cs) (λ o h. refl) old (part ++ drop m old)
+          (prefix-written (answer table cs) m old part room
+          record { room = gives .room; answers = λ o h. gives .answers o h ∙ ap (λ (l : List Cell). answer (take (length table - at) (drop at table)) l o) steps ∙ part-answers o })
+
+-- ---- three inks, and hs above them
+
+stepped-over : (hs cs : List Cell) → stepped (hs ++ cs) ≡ stepped hs ++ stepped cs
+stepped-over [] cs = refl
+stepped-over (h ∷ hs) cs = ap (λ (l : List Cell). stepCell (h .«x_n» - h .x) (h .w) ∷ l) (stepped-over hs cs)
+
+module _ (filling sizes : List ℕ) (xs : List Float) (m : ℕ) (laid : Promised filling sizes (length xs) m) (table : List Float)
+    (enough : product (lastFirst (length xs) sizes) * m ≤ length table) (c d e : Cell) (three : e ∷ d ∷ c ∷ [] ≡ firstInks filling sizes xs 3) (from : 3 ≤ length xs)
+    (p : Plan) (plan : p ≡ planFor (c .«x_n» - c .x) (d .«x_n» - d .x) (e .«x_n» - e .x) (c .w) (d .w) (e .w)) where
+  cube : Proper (e ∷ d ∷ c ∷ [])
+  cube = cells-proper filling sizes xs m laid table enough 3 (e ∷ d ∷ c ∷ []) three from
+
+  pub cube-near : Near p
+  cube-near = subst Near (sym plan) (near (c .«x_n» - c .x) (d .«x_n» - d .x) (e .«x_n» - e .x) (c .w) (d .w) (e .w))
+
+  module _ (hs : List Cell) (n : ℕ) (is : length xs ≡ n) (all : hs ++ (e ∷ d ∷ c ∷ []) ≡ firstInks filling sizes xs n) (at : ℕ) (base : at ≡ lows (hs ++ (e ∷ d ∷ c ∷ []))) where
+    abbrev part : List Float
+    part = take (length table - at) (drop at table)
+
+    pub cube-reach : p .far + reach (stepped hs) + m ≤ length part
+    cube-reach =
+        let far = ap (λ (q : Plan). q .far) plan in
+        let over = ap reach (stepped-over hs (e ∷ d ∷ c ∷ [])) ∙ reach-over (stepped hs) (stepped (e ∷ d ∷ c ∷ [])) in
+        omega (arith, far, over, part-reach filling sizes xs m laid table enough n is (hs ++ (e ∷ d ∷ c ∷ [])) all at base)
+
+    pub cube-done : some isNan xs ≡ false → (old now : List Float) → now ≡ written (λ o. above (tetraOf p o) (stepped hs) part) m old
+        → Settled (answerIn (lastFirst (length xs) sizes) m table xs) m xs old 0 now
+    cube-done none = cells-done filling sizes xs m laid table enough n (hs ++ (e ∷ d ∷ c ∷ [])) all is none (λ o. above (tetraOf p o) (stepped hs) part) same
+      where
+        same : (o : ℕ) → o < m → above (tetraOf p o) (stepped hs) part ≡ answer table (hs ++ (e ∷ d ∷ c ∷ [])) o
+        same o h =
+            above-answer (stepCell (c .«x_n» - c .x) (c .w)) (stepCell (d .«x_n» - d .x) (d .w)) (stepCell (e .«x_n» - e .x) (e .w)) o (tetraOf p o)
+            (λ t. ap (λ (q : Plan). tetraOf q o t) plan
+            ∙ plan-answers (c .«x_n» - c .x) (d .«x_n» - d .x) (e .«x_n» - e .x) (c .w) (d .w) (e .w) (cube .1 .1 .0 .1) (cube .1 .0 .1) (cube .0 .1) t o)
+            (stepped hs) part
+            ∙ ap (λ (l : List Cell). answer part l o) (sym (stepped-over hs (e ∷ d ∷ c ∷ [])))
+            ∙ part-answers filling sizes xs m laid table enough n is (hs ++ (e ∷ d ∷ c ∷ [])) all at base o

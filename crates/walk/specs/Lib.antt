@@ -1,0 +1,4 @@
+-- Blocks of four (Blocks), cells and plans by steps (Steps), the corners of the further inks and the fold by halves (Walk).
+pub mod Blocks
+pub mod Steps
+pub mod Walk
