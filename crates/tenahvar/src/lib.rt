@@ -41,11 +41,11 @@ pub extern "C" fn tenahvar_layout(
 pub extern "C" fn tenahvar_total(sizes: &[u8; 16], n: usize, m: usize, total: &mut u64) -> u32
     ensures { λ r. ⌜ Totalled (now (sizes .entry)) n m (now (total .entry)) r (now (total .exit)) ⌝ }
 {
-    let laid = layout::layout(*sizes, n, m);
-    if laid.refusal != 0 {
-        return laid.refusal;
+    let asked = layout::layout(*sizes, n, m);
+    if asked.refusal != 0 {
+        return asked.refusal;
     }
-    *total = layout::entry_count(laid.lut);
+    *total = layout::entry_count(asked.lut);
     0
 }
 
