@@ -1,6 +1,7 @@
 /* Tenahvar: colour lookup of 1 to 15 inks in a grid of binary32 entries.
  *
- * Each function answers a number: 0, done, or the first refusal that applies. On a refusal it has written nothing.
+ * Each function answers a number: 0, done, or the first refusal that applies. On a refusal it has written nothing, but for tenahvar_lookup_skipping's
+ * *reads, which it sets to 0.
  * Memory: it is lent for the time of the call alone; nothing is kept, allocated or freed.
  * Threads: there is no state, so any function may be called from any thread at any time.
  * Pointers: none may be null, also where a length is 0; each is aligned as its type asks, and what a function writes to may overlap nothing else that it is
@@ -91,6 +92,18 @@ uint32_t tenahvar_lookup(const uint8_t sizes[16], size_t n, size_t m,
                          const float *table, size_t table_length,
                          const float *inputs, size_t inputs_length,
                          float *answer, size_t answer_length);
+
+/* The same without the half that counts for nothing: where an ink from the fourth on falls on a grid line, so that its weight is 0, only its lower node is
+ * visited, and the answer there is taken as it stands. Refusals as of tenahvar_lookup. On 0 it sets the first m entries of `answer` and no others, and
+ * *reads to the number of node reads, whatever m is: 2 for one ink, 4 for two, else 6 times 2 to the power k, where k inks from the fourth on have another
+ * weight than 0: at most 24,576. On a refusal it sets *reads to 0 and writes nothing else. `reads` may overlap nothing else.
+ * If the first total entries of the table are from 0 to 1, the answers equal the lookup's, zeros of both signs counting as equal. In other tables they need
+ * not: the lookup adds 0 times what the upper node gives, a NaN where that is an infinity or a NaN, and here that is left out. */
+uint32_t tenahvar_lookup_skipping(const uint8_t sizes[16], size_t n, size_t m,
+                                  const float *table, size_t table_length,
+                                  const float *inputs, size_t inputs_length,
+                                  float *answer, size_t answer_length,
+                                  uint32_t *reads);
 
 /* Where a node's m entries stand in the table: a layout's refusals, then 6, 7, 10. On 0 the node is table[*offset] .. table[*offset + m - 1]. */
 uint32_t tenahvar_node(const uint8_t sizes[16], size_t n, size_t m,

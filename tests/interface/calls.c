@@ -28,7 +28,7 @@ static const uint8_t *sizes_of(uint8_t g, uint8_t second) {
     return sizes;
 }
 
-/* What all four calls that take a layout refuse first. */
+/* What the calls that take a layout refuse first. */
 static const struct { uint8_t g, second; size_t n, m; uint32_t number; } layouts[] = {
     {2, 2, 0, 0, TENAHVAR_INPUT_INKS},      {2, 2, 16, 3, TENAHVAR_INPUT_INKS},   {2, 2, ((size_t)1 << 32) + 3, 3, TENAHVAR_INPUT_INKS},
     {0, 0, 3, 0, TENAHVAR_OUTPUT_INKS},     {2, 2, 3, 16, TENAHVAR_OUTPUT_INKS},  {2, 2, 3, ((size_t)1 << 32) + 3, TENAHVAR_OUTPUT_INKS},
@@ -42,6 +42,7 @@ static void layout_calls(void) {
     float scale[16], one;
     size_t offset = 99;
     uint64_t total = 99;
+    uint32_t reads;
     memset(untouched, 0xA5, sizeof untouched);
     memset(strides, 0xA5, sizeof strides);
     memset(filling, 0xA5, sizeof filling);
@@ -50,9 +51,11 @@ static void layout_calls(void) {
     for (size_t i = 0; i < sizeof layouts / sizeof *layouts; i++) {
         const uint8_t *sizes = sizes_of(layouts[i].g, layouts[i].second);
         size_t n = layouts[i].n, m = layouts[i].m;
+        reads = 99;
         EXPECT(tenahvar_layout(sizes, n, m, strides, filling, scale) == layouts[i].number);
         EXPECT(tenahvar_total(sizes, n, m, &total) == layouts[i].number);
         EXPECT(tenahvar_lookup(sizes, n, m, &one, 0, &one, 0, &one, 0) == layouts[i].number);
+        EXPECT(tenahvar_lookup_skipping(sizes, n, m, &one, 0, &one, 0, &one, 0, &reads) == layouts[i].number && reads == 0);
         EXPECT(tenahvar_node(sizes, n, m, &one, 0, &offset, 0, &offset) == layouts[i].number);
     }
     EXPECT(memcmp(strides, untouched, sizeof strides) == 0);

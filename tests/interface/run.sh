@@ -16,9 +16,9 @@ export TENAHVAR_LIB_DIR
 archive=$TENAHVAR_LIB_DIR/libtenahvar.a
 cc=${CC:-cc}
 strict=(-Wall -Wextra -Werror -pedantic -Iinclude)
-calls=(calls clut slab units linear)   # tests of the header
-shown=(lookup slab)             # examples that need no profile
-programs=(tests/interface/{calls,clut,slab,units,linear,broken}.c examples/{lookup,slab,profile}.c)
+calls=(calls clut slab units linear skipping)   # tests of the header
+shown=(lookup slab page)        # examples that need no profile
+programs=(tests/interface/{calls,clut,slab,units,linear,skipping,broken}.c examples/{lookup,slab,page,profile}.c)
 
 # compiled FOLDER FLAG..: every program, in FOLDER/tests or FOLDER/examples.
 compiled() {

@@ -11,16 +11,18 @@ enum { STACK = 1 << 16, PAINT = 0xA5, N = 15, M = 15, ENTRIES = (1 << N) * M };
 
 static ucontext_t outside, inside;
 static unsigned char stack[STACK];
-static float *table, *slab, answer[M], inputs[N], w[256], scale[16];
+static float *table, *slab, answer[M], inputs[N], six_idle[N], w[256], scale[16];
 static uint8_t sizes[16], bytes[20 + ENTRIES];
 static size_t coordinates[N], x[256], x_n[256], offset;
-static uint32_t strides[16], filling[16], number;
+static uint32_t strides[16], filling[16], number, reads;
 static uint64_t total;
 
 static void layout(void) { number = tenahvar_layout(sizes, N, M, strides, filling, scale); }
 static void count(void) { number = tenahvar_total(sizes, N, M, &total); }
 static void lookup(void) { number = tenahvar_lookup(sizes, N, M, table, ENTRIES, inputs, N, answer, M); }
 static void lookup_9(void) { number = tenahvar_lookup(sizes, 9, M, table, ENTRIES, inputs, 9, answer, M); }
+static void skipping(void) { number = tenahvar_lookup_skipping(sizes, N, M, table, ENTRIES, inputs, N, answer, M, &reads); }
+static void skipping_9(void) { number = tenahvar_lookup_skipping(sizes, N, M, table, ENTRIES, six_idle, N, answer, M, &reads); }
 static void node(void) { number = tenahvar_node(sizes, N, M, table, ENTRIES, coordinates, N, &offset); }
 static void clut(void) { number = tenahvar_read_clut(bytes, sizeof bytes, N, M, sizes, table, ENTRIES); }
 static void units(void) { number = tenahvar_read_units(bytes, sizeof bytes, 2, ENTRIES / 2, table, ENTRIES); }
@@ -48,7 +50,8 @@ static size_t taken(void (*call)(void)) {
 
 int main(void) {
     static const struct { const char *name; void (*call)(void); } calls[] = {
-        {"layout", layout}, {"total", count}, {"lookup", lookup}, {"lookup of 9", lookup_9}, {"node", node}, {"read_clut", clut}, {"read_units", units}, {"cut_slab", cut},
+        {"layout", layout}, {"total", count}, {"lookup", lookup}, {"lookup of 9", lookup_9}, {"lookup_skipping", skipping},
+        {"lookup_skipping of 9 in 15", skipping_9}, {"node", node}, {"read_clut", clut}, {"read_units", units}, {"cut_slab", cut},
         {"create_ranged_256", ranged}, {"pyramidal", pyramid}, {"prismatic", prism}, {"trilinear", trilinear},
     };
     table = calloc(ENTRIES, sizeof *table);
@@ -58,6 +61,7 @@ int main(void) {
     memset(bytes, 2, 16);
     bytes[16] = 1;
     for (int i = 0; i < N; i++) inputs[i] = 0.5f;
+    for (int i = 0; i < 9; i++) six_idle[i] = 0.5f;
     size_t around = taken(nothing), most = 0;
     for (size_t i = 0; i < sizeof calls / sizeof *calls; i++) {
         size_t bytes_taken = taken(calls[i].call) - around;

@@ -36,6 +36,19 @@ extern "C" {
         answer_length: usize,
     ) -> u32;
 
+    pub fn tenahvar_lookup_skipping(
+        sizes: &[u8; 16],
+        n: usize,
+        m: usize,
+        table: *const f32,
+        table_length: usize,
+        inputs: *const f32,
+        inputs_length: usize,
+        answer: *mut f32,
+        answer_length: usize,
+        reads: &mut u32,
+    ) -> u32;
+
     pub fn tenahvar_node(
         sizes: &[u8; 16],
         n: usize,

@@ -6,10 +6,12 @@
 #![warn(missing_docs)]
 
 mod c;
+mod cubes;
 mod refusal;
 #[cfg(test)]
 mod tests;
 
+pub use cubes::{prismatic, pyramidal, trilinear};
 use refusal::told;
 pub use refusal::Refusal;
 
@@ -128,6 +130,35 @@ pub fn lookup(
     })
 }
 
+/// The same without the half that counts for nothing: where an ink from the fourth on falls on a grid line, so that its weight is 0, only its lower node is
+/// visited. It answers the number of node reads, whatever `m` is: 2 for one ink, 4 for two, else 6 times 2 to the power of how many inks from the fourth on
+/// have another weight than 0. If the first [`Grid::total`] entries are from 0 to 1, the answers equal those of [`lookup`], zeros of both signs counting as
+/// equal; in other tables they need not, as an infinity or a NaN at a node that is not visited does not count. The refusals of [`lookup`].
+pub fn lookup_skipping(
+    grid: &Grid,
+    table: &[f32],
+    inputs: &[f32],
+    answer: &mut [f32],
+) -> Result<u32, Refusal> {
+    let mut reads = 0;
+    // SAFETY: each pointer goes with its slice's length, the `&mut` overlaps nothing, and `reads` is a local.
+    let number = unsafe {
+        c::tenahvar_lookup_skipping(
+            &grid.sizes,
+            grid.n,
+            grid.m,
+            table.as_ptr(),
+            table.len(),
+            inputs.as_ptr(),
+            inputs.len(),
+            answer.as_mut_ptr(),
+            answer.len(),
+            &mut reads,
+        )
+    };
+    told(number).map(|()| reads)
+}
+
 /// The `m` entries of a node, as a part of the table. Coordinates come first ink first. The refusals of [`layout`], then 6, 7 and 10.
 pub fn node<'a>(
     grid: &Grid,
@@ -228,63 +259,4 @@ pub fn create_ranged_256(g: u8) -> Result<[Cell; 256], Refusal> {
         x_n: x_n[i],
         w: w[i],
     }))
-}
-
-/// A colour in a cube of `g` lines on each axis with `m` entries at each node, by the pyramid method: it sets the first `m` entries of
-/// `answer` and no others. Refusals 2, 3, 6, 8 and 10.
-pub fn pyramidal(
-    cells: &[Cell; 3],
-    g: u8,
-    m: usize,
-    cube: &[f32],
-    answer: &mut [f32],
-) -> Result<(), Refusal> {
-    in_cube(c::tenahvar_pyramidal, cells, g, m, cube, answer)
-}
-
-/// The same by the prism method.
-pub fn prismatic(
-    cells: &[Cell; 3],
-    g: u8,
-    m: usize,
-    cube: &[f32],
-    answer: &mut [f32],
-) -> Result<(), Refusal> {
-    in_cube(c::tenahvar_prismatic, cells, g, m, cube, answer)
-}
-
-/// The same by the trilinear method.
-pub fn trilinear(
-    cells: &[Cell; 3],
-    g: u8,
-    m: usize,
-    cube: &[f32],
-    answer: &mut [f32],
-) -> Result<(), Refusal> {
-    in_cube(c::tenahvar_trilinear, cells, g, m, cube, answer)
-}
-
-fn in_cube(
-    method: c::CubeMethod,
-    cells: &[Cell; 3],
-    g: u8,
-    m: usize,
-    cube: &[f32],
-    answer: &mut [f32],
-) -> Result<(), Refusal> {
-    let (x, x_n, w) = (cells.map(|c| c.x), cells.map(|c| c.x_n), cells.map(|c| c.w));
-    // SAFETY: each pointer goes with its slice's length, and the `&mut` overlaps nothing.
-    told(unsafe {
-        method(
-            &x,
-            &x_n,
-            &w,
-            g,
-            m,
-            cube.as_ptr(),
-            cube.len(),
-            answer.as_mut_ptr(),
-            answer.len(),
-        )
-    })
 }

@@ -2,6 +2,7 @@ extern crate std;
 
 mod clut;
 mod sizes;
+mod skipping;
 mod slab;
 mod units;
 

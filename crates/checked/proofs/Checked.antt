@@ -7,8 +7,8 @@ use Rattle.lists.specs.Lists.{tabulate, every, some, lastFirst, product}
 use Rattle.cell.specs.Rule.{inkOf, productOf, upOf, weightOf, nextOf, cellLow, cellHigh, inkCell}
 use Rattle.layout.specs.Order.{index}
 use Rattle.layout.specs.Layout.{isCount, recordOf, refusedBy, laidUsing, laidOf}
-use Rattle.lookup.specs.Lookup.{lookup}
-use Rattle.lookup.specs.Table.{cells, answerAt, refusal}
+use Rattle.lookup.specs.Lookup.{lookupWith}
+use Rattle.lookup.specs.Table.{cells, answerWith, refusal}
 use Rattle.weights.specs.Rule.{scaleOf, cellOf, weightCell, rangedCell}
 use Rattle.cubes.specs.Cube.{onGrid}
 use Rattle.cubes.specs.Cube as Cube
@@ -16,5 +16,5 @@ use Rattle.checked.specs.Cases as Cases
 use Rattle.checked.specs.Cases.{all, bits, totalOf, stridesOf, lookOf, between, cubeOf, answers, sameNumbers, right, over, upTo5, corner, lastAt, justUnder, cases}
 
 pub checked : every right cases ≡ true
-unfolding ofBits toBits ofInt toUnsigned isNan add sub mul div lt le tabulate every some lastFirst product inkOf productOf upOf weightOf nextOf cellLow cellHigh index isCount recordOf refusedBy laidUsing laidOf lookup inkCell cells answerAt refusal scaleOf cellOf weightCell rangedCell onGrid Cube.answerAt Cube.refusal all bits totalOf stridesOf lookOf between cubeOf Cases.weightOf answers sameNumbers right over upTo5 corner lastAt justUnder cases
+unfolding ofBits toBits ofInt toUnsigned isNan add sub mul div lt le tabulate every some lastFirst product inkOf productOf upOf weightOf nextOf cellLow cellHigh index isCount recordOf refusedBy laidUsing laidOf lookupWith inkCell cells answerWith refusal scaleOf cellOf weightCell rangedCell onGrid Cube.answerAt Cube.refusal all bits totalOf stridesOf lookOf between cubeOf Cases.weightOf answers sameNumbers right over upTo5 corner lastAt justUnder cases
 checked = refl

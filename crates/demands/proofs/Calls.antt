@@ -12,6 +12,7 @@ use Rattle.layout.specs.declared.MultidimensionalLut.{MultidimensionalLut}
 use Rattle.layout.specs.declared.Laid.{Laid}
 use Rattle.layout.specs.Layout.{laidOf, entries}
 use Rattle.layout.proofs.BySizes.{laid-is-layout, laid-inks}
+use Rattle.lookup.specs.Lookup.{never}
 use Rattle.lookup.specs.Table.{answerAt, Looked}
 use Rattle.slab.specs.Slab.{without, fewer, SlabCut}
 use Rattle.slab.proofs.Fewer.{fewer-outputs, laid-fewer}
@@ -28,9 +29,10 @@ pub calls-agree : (lut : MultidimensionalLut) (table xs : List Float) (j k : ℕ
     → (o : ℕ) → o < lut .«output_inks» → Same (getD whole o nan) (getD smaller o nan)
 calls-agree lut table xs j k shares may on old₁ whole first old₂ slab cut old₃ smaller second o h =
     let p = cut-passed lut table j k old₂ slab cut in
-    ap plain (looked-at lut table xs old₁ whole first o h)
-    ∙ on-a-line lut (p .is) table shares xs (looked-accepted lut table xs old₁ whole first) j k may on old₂ slab cut o h
-    ∙ ap plain (sym (looked-at (fewer lut j) slab (without (j - 1) xs) old₃ smaller second o (omega (arith, fewer-outputs lut (p .is) (p .two) j (p .from) (p .to)))))
+    ap plain (looked-at never lut table xs old₁ whole first o h)
+    ∙ on-a-line lut (p .is) table shares xs (looked-accepted never lut table xs old₁ whole first) j k may on old₂ slab cut o h
+    ∙ ap plain (sym (looked-at never (fewer lut j) slab (without (j - 1) xs) old₃ smaller second o
+    (omega (arith, fewer-outputs lut (p .is) (p .two) j (p .from) (p .to)))))
 
 -- by sizes and counts, as C asks it: the sizes with ink j's taken out, and one ink fewer
 module _ (sizes : List ℕ) (n m : ℕ) (none : laidOf sizes n m .refusal ≡ 0) (sixteen : length sizes ≡ 16) (bytes : T (areBytes sizes)) where

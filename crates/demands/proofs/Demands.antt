@@ -15,8 +15,8 @@ use Rattle.layout.specs.Order.{index, Within}
 use Rattle.layout.specs.Layout.{IsLayout, inkSizes, entries}
 use Rattle.layout.proofs.Order.{entries-within}
 use Rattle.layout.proofs.Laws.{inks-to, size-from, size-to, ink-count, size-of}
-use Rattle.lookup.specs.Lookup.{Grid, lookup}
-use Rattle.lookup.specs.Table.{output, answerAt}
+use Rattle.lookup.specs.Lookup.{Grid, lookup, never}
+use Rattle.lookup.specs.Table.{output, answerWith, answerAt}
 use Rattle.slab.specs.Slab.{insert, without, sizeOf, fewer, SlabCut}
 use Rattle.demands.specs.Demand.{Cuttable, AcceptedInputs, Shares, OnLine, AtANode, OnALine}
 use Rattle.demands.proofs.Each.{All, all-last-first, each-map}
@@ -32,13 +32,14 @@ use Rattle.slab.proofs.Cutting.{slab-cut-length, passed-done, cut-passed, cut-e
 sized : (lut : MultidimensionalLut) → IsLayout lut → (i : ℕ) → i < lut .«input_inks» → Sized (getD (lut .«grid_sizes») i 0)
 sized lut is i h = (size-from lut is i h, omega (arith, size-to lut is i))
 
-sizes-are : (lut : MultidimensionalLut) → IsLayout lut → All Sized (inkSizes lut)
+pub sizes-are : (lut : MultidimensionalLut) → IsLayout lut → All Sized (inkSizes lut)
 sizes-are lut is = all-last-first Sized (lut .«input_inks») (lut .«grid_sizes») (λ i h. sized lut is i h)
 
-few : (lut : MultidimensionalLut) → IsLayout lut → length (inkSizes lut) ≤ 1000
+pub few : (lut : MultidimensionalLut) → IsLayout lut → length (inkSizes lut) ≤ 1000
 few lut is = omega (arith, ink-count lut is, inks-to lut is)
 
-shared : (lut : MultidimensionalLut) → IsLayout lut → (table : List Float) → Shares table (entries lut) → (o : ℕ) → o < lut .«output_inks» → Shared (inkSizes lut) (output lut table o)
+pub shared : (lut : MultidimensionalLut) → IsLayout lut → (table : List Float) → Shares table (entries lut)
+    → (o : ℕ) → o < lut .«output_inks» → Shared (inkSizes lut) (output lut table o)
 shared lut is table shares o h ks w = shares _ (omega (arith, entries-within (inkSizes lut) ks (lut .«output_inks») w))
 
 module _ (lut : MultidimensionalLut) (is : IsLayout lut) (table : List Float) (shares : Shares table (entries lut)) (xs : List Float) (accepted : AcceptedInputs lut xs) where
@@ -62,7 +63,7 @@ module _ (lut : MultidimensionalLut) (is : IsLayout lut) (table : List Float) (s
         omega (arith, entries-within (inkSizes lut) (reverse lines) (lut .«output_inks») node)
 
     node-same : (o : ℕ) → o < lut .«output_inks» → Same (answerAt lut table xs o) (output lut table o (reverse lines))
-    unfolding answerAt
+    unfolding answerWith
     node-same o h = node-answer (inkSizes lut) (sizes-are lut is) (few lut is) (output lut table o) (shared lut is table shares o h) xs lines stand as-many
 
   -- ---- ink j, counted from 1, on grid line k
@@ -114,7 +115,7 @@ module _ (lut : MultidimensionalLut) (is : IsLayout lut) (table : List Float) (s
           sym (cut-entry lut table j k old smaller cut _ below ∙ slab-entry lut is two j one to k in-grid table ks o w h)
 
       line-same : (o : ℕ) → o < lut .«output_inks» → Same (answerAt lut table xs o) (answerAt (fewer lut j) smaller (without (j - 1) xs) o)
-      unfolding answerAt
+      unfolding answerWith
       line-same o h =
           let p = lut .«input_inks» - j in
           let ys = without (j - 1) xs in
@@ -126,7 +127,9 @@ module _ (lut : MultidimensionalLut) (is : IsLayout lut) (table : List Float) (s
           let fits : o < fewer lut j .«output_inks» = omega (arith, fewer-outputs lut is two j one to) in
           cut-answer (inkSizes lut) (sizes-are lut is) (few lut is) (output lut table o) (shared lut is table shares o h) xs p (j - 1) k (omega (arith, from, to, ink-count lut is)) (omega (arith, from)) (rw size on)
           ∙ ap (λ (gs : List ℕ). plain (lookup f (lows gs ys))) (others-are lut is two j one to)
-          ∙ ap plain (lookup-agrees f g (lows others ys) (each-map (Within others) _ (lows others ys) (smaller-entry o h) (cells-within low low-sound others ys (sizes-are (fewer lut j) laid))))
+          ∙ ap plain (lookup-agrees never f g (lows others ys)
+          (each-map (Within others) _ (lows others ys) (smaller-entry o h)
+          (cells-within low low-sound others ys (sizes-are (fewer lut j) laid))))
           ∙ sym (rules-same others (sizes-are (fewer lut j) laid) (few (fewer lut j) laid) g (shared (fewer lut j) laid smaller smaller-shares o fits) ys)
 
 -- ---- demand 3

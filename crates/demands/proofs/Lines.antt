@@ -19,10 +19,11 @@ use Rattle.binary32.proofs.Signs.{mlaf-same, lerp-same}
 use Rattle.binary32.proofs.Nodes.{mlaf-zero, lerp-zero, along-zero}
 use Rattle.binary32.proofs.Means.{along-held}
 use Rattle.cell.specs.declared.Cell.{Cell}
-use Rattle.lookup.specs.Lookup.{Grid, node, part, lookup}
+use Rattle.lookup.specs.Lookup.{Grid, node, part, lookupWith, lookup, never}
 use Rattle.slab.specs.Slab.{insert, without}
 use Rattle.demands.proofs.Each.{either-way, Each, Weights, lowers}
-use Rattle.demands.proofs.Lookups.{lookup-held, lookup-step}
+use Rattle.lookup.proofs.More.{lookup-more}
+use Rattle.demands.proofs.Lookups.{lookup-held}
 use Rattle.slab.proofs.Without.{length-without}
 
 abbrev pub Zero : Float → Type 0
@@ -67,7 +68,7 @@ tetra-zero c x y z C X Y Z =
 -- ---- all inks on grid lines: the entry at the node
 
 pub lookup-node : (f : Grid) (cs : List Cell) → length cs ≤ 1000 → Each (λ ks. Held 0 (f ks)) cs → Weights (Held 0) cs → Weights Zero cs → Same (lookup f cs) (f (lowers cs))
-unfolding lookup
+unfolding lookupWith
 lookup-node f [] n F W Z = refl
 lookup-node f (c ∷ []) n F W Z = along-zero (f (c .x ∷ [])) (f (c .«x_n» ∷ [])) (c .w) (F false .number) (F true .number) (Z .0)
 lookup-node f (d ∷ c ∷ []) n F W Z = square-zero (λ i j. f (node d j ∷ node c i ∷ [])) (c .w) (d .w) (λ i j. F j i) (W .1 .0) (Z .1 .0) (Z .0)
@@ -75,7 +76,8 @@ lookup-node f (e ∷ d ∷ c ∷ []) n F W Z = tetra-zero (λ i j k. f (node e k
 lookup-node f (h ∷ e ∷ d ∷ c ∷ cs) n F W Z =
     let rest = e ∷ d ∷ c ∷ cs in
     lerp-zero (lookup (part f (h .x)) rest) (lookup (part f (h .«x_n»)) rest) (h .w)
-    (lookup-held (part f (h .x)) rest (omega arith) (F false) (W .1) .number) (lookup-held (part f (h .«x_n»)) rest (omega arith) (F true) (W .1) .number) (Z .0)
+    (lookup-held never (part f (h .x)) rest (omega arith) (F false) (W .1) .number)
+    (lookup-held never (part f (h .«x_n»)) rest (omega arith) (F true) (W .1) .number) (Z .0)
     ∙ lookup-node (part f (h .x)) (e ∷ d ∷ c ∷ cs) (omega arith) (F false) (W .1) (Z .1)
 
 -- ---- one ink from the fourth on stands on a grid line: the lookup with one ink fewer, in the slab at that line
@@ -87,13 +89,14 @@ pub lookup-cut : (f : Grid) (cs : List Cell) (p : ℕ) (none : Cell) → p + 4 �
 unfolding insert without
 lookup-cut f [] p none n l F W Z = absurd (omega arith)
 lookup-cut f (c ∷ cs) zero none n l F W Z =
-    ap plain (lookup-step f c cs (omega arith))
+    ap plain (lookup-more never f c cs (omega arith))
     ∙ lerp-zero (lookup (part f (c .x)) cs) (lookup (part f (c .«x_n»)) cs) (c .w)
-    (lookup-held (part f (c .x)) cs (omega arith) (F false) (W .1) .number) (lookup-held (part f (c .«x_n»)) cs (omega arith) (F true) (W .1) .number) Z
+    (lookup-held never (part f (c .x)) cs (omega arith) (F false) (W .1) .number)
+    (lookup-held never (part f (c .«x_n»)) cs (omega arith) (F true) (W .1) .number) Z
 lookup-cut f (h ∷ cs) (suc p) none n l F W Z =
     let short = without p cs in
     let g : Grid = λ ks. f (insert (suc p) (getD cs p none .x) ks) in
-    ap plain (lookup-step f h cs (omega arith))
+    ap plain (lookup-more never f h cs (omega arith))
     ∙ lerp-same (lookup (part f (h .x)) cs) (lookup (part g (h .x)) short) (lookup (part f (h .«x_n»)) cs) (lookup (part g (h .«x_n»)) short) (h .w) (h .w)
     (lookup-cut (part f (h .x)) cs p none (omega arith) (omega arith) (F false) (W .1) Z) (lookup-cut (part f (h .«x_n»)) cs p none (omega arith) (omega arith) (F true) (W .1) Z) refl
-    ∙ sym (ap plain (lookup-step g h short (omega (arith, length-without p cs (omega arith)))))
+    ∙ sym (ap plain (lookup-more never g h short (omega (arith, length-without p cs (omega arith)))))

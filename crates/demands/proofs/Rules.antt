@@ -21,10 +21,11 @@ use Rattle.cell.specs.declared.Cell.{Cell}
 use Rattle.cell.specs.Rule.{cellLow, cellHigh, inkCell}
 use Rattle.cell.proofs.Laws.{Alike}
 use Rattle.layout.specs.Order.{Within}
-use Rattle.lookup.specs.Lookup.{Grid, node, part, lookup}
+use Rattle.lookup.specs.Lookup.{Grid, node, part, lookup, never}
 use Rattle.lookup.specs.Table.{cells}
 use Rattle.demands.proofs.Each.{All, all-map, Each, each-map, Weights}
-use Rattle.demands.proofs.Lookups.{lookup-held, lookup-step}
+use Rattle.lookup.proofs.More.{lookup-more}
+use Rattle.demands.proofs.Lookups.{lookup-held}
 use Rattle.demands.proofs.InkCells.{Sized, Rule, Sound, cellsBy, by-ink, low, low-sound, ink-sound, ink-alike, lows, node-below, length-cells, cells-within, cells-shares}
 
 -- the entries of a grid are from 0 to 1
@@ -44,7 +45,7 @@ module _ (rule : Rule) (sound : Sound rule) (gs : List ℕ) (sized : All Sized g
   few-cells = omega (arith, length-cells rule gs xs)
 
   number : Number (lookup f (cellsBy rule gs xs))
-  number = lookup-held f (cellsBy rule gs xs) few-cells entries weights .number
+  number = lookup-held never f (cellsBy rule gs xs) few-cells entries weights .number
 
 -- ---- both rules
 
@@ -57,7 +58,7 @@ above : (f : Grid) (g : ℕ) (c d : Cell) (cs ds : List Cell) → Alike c d → 
 above f g c d cs ds alike three three' c-in d-in numbers numbers' same =
     let to : (k l : ℕ) → k ≡ l → l < g → Same (lookup (part f k) cs) (lookup (part f l) ds) = λ k l e h. ap (λ (k : ℕ). plain (lookup (part f k) cs)) e ∙ same l h in
     let lower = to (c .x) (d .x) (alike .lower) (d-in false) in
-    ap plain (lookup-step f c cs three)
+    ap plain (lookup-more never f c cs three)
     ∙ ⊎-elim
     (λ e. lerp-same _ _ _ _ (c .w) (d .w) lower (to (c .«x_n») (d .«x_n») e (d-in true)) (ap plain (alike .weight)))
     (λ z.
@@ -65,7 +66,7 @@ above f g c d cs ds alike three three' c-in d-in numbers numbers' same =
     ∙ lower
     ∙ sym (lerp-zero _ _ (d .w) (numbers' (d .x) (d-in false)) (numbers' (d .«x_n») (d-in true)) (ap plain z)))
     (alike .upper)
-    ∙ sym (ap plain (lookup-step f d ds three'))
+    ∙ sym (ap plain (lookup-more never f d ds three'))
 
 module _ (xs : List Float) where
   -- the first four inks take the rule of inks 1 to 4 anyway

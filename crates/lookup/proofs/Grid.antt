@@ -2,6 +2,7 @@
 use Prim.Native.Nat.{ℕ, zero, suc, _+_, _-_, _*_, _≤_, _<_}
 use native.Mathlib.Omega.{arith}
 use mathlib.Core.Path.{_≡_, refl, sym, ap, ap₂, subst, _∙_}
+use mathlib.Core.Bool.{Bool}
 use mathlib.Core.List.{List, [], _∷_, _++_}
 use lib.Dec.{ltb}
 use lib.Ieee.{Float, nan}
@@ -18,9 +19,16 @@ use Rattle.layout.specs.Layout.{IsLayout}
 use Rattle.layout.specs.Order.{Steps}
 use Rattle.layout.proofs.Laws.{inks-from, inks-to, outputs-to, size-from, size-to, filling-within, filling-steps, first-filling}
 use Rattle.lookup.specs.Table.{cells}
-use Rattle.lookup.specs.Places.{reach, strides, scaled, answer, firstInks, Promised, answerIn}
+use Rattle.lookup.specs.Idle.{weightsOf}
+use Rattle.lookup.specs.Places.{reach, strides, scaled, answerBy, firstInks, Promised, answerIn}
 use Rattle.lookup.proofs.Reach.{reach-total}
-use Rattle.lookup.proofs.Distances.{answers-law}
+use Rattle.lookup.proofs.Distances.{as-many, answers-law}
+
+scaled-weights : (ss : List ℕ) (cs : List Cell) → length ss ≡ length cs → weightsOf (scaled ss cs) ≡ weightsOf cs
+scaled-weights [] [] h = refl
+scaled-weights [] (c ∷ cs) h = absurd (omega arith)
+scaled-weights (s ∷ ss) [] h = absurd (omega arith)
+scaled-weights (s ∷ ss) (c ∷ cs) h = ap (λ (ws : List Float). c .w ∷ ws) (scaled-weights ss cs (omega arith))
 
 module _ (filling sizes : List ℕ) (xs : List Float) where
   -- the filling sizes are the strides of the sizes
@@ -52,14 +60,18 @@ module _ (filling sizes : List ℕ) (xs : List Float) (m : ℕ) (laid : Promised
         let same = ap reach (ap inks (sym is) ∙ first-inks filling sizes xs (length xs) m (laid .steps)) in
         omega (arith, whole, same, enough)
 
-    answers : (o : ℕ) → answer table (inks n) o ≡ answerIn gs m table xs o
-    answers o = ap (λ (cs : List Cell). answer table cs o) (ap inks (sym is) ∙ first-inks filling sizes xs (length xs) m (laid .steps)) ∙ answers-law gs m table xs o
+    answers : (skip : Float → Bool) (o : ℕ) → answerBy skip table (inks n) o ≡ answerIn skip gs m table xs o
+    answers skip o = ap (λ (cs : List Cell). answerBy skip table cs o) (ap inks (sym is) ∙ first-inks filling sizes xs (length xs) m (laid .steps)) ∙ answers-law skip gs m table xs o
 
     pub inks-reach : (cs : List Cell) → cs ≡ inks n → reach cs + m ≤ length table
     inks-reach cs e = rw e reaches
 
-    pub inks-done : (cs : List Cell) → cs ≡ inks n → (old now : List Float) → now ≡ written (answer table cs) m old → now ≡ written (answerIn gs m table xs) m old
-    inks-done cs e old now w = w ∙ written-same _ _ m old (λ o h. ap (λ (l : List Cell). answer table l o) e ∙ answers o)
+    pub inks-done : (skip : Float → Bool) (cs : List Cell) → cs ≡ inks n → (old now : List Float) → now ≡ written (answerBy skip table cs) m old → now ≡ written (answerIn skip gs m table xs) m old
+    inks-done skip cs e old now w = w ∙ written-same _ _ m old (λ o h. ap (λ (l : List Cell). answerBy skip table l o) e ∙ answers skip o)
+
+    -- the distances leave the weights as they are
+    pub inks-weights : weightsOf (inks n) ≡ weightsOf (cells gs xs)
+    inks-weights = ap weightsOf (ap inks (sym is) ∙ first-inks filling sizes xs (length xs) m (laid .steps)) ∙ scaled-weights (strides m gs) (cells gs xs) (as-many m gs xs)
 
 -- ---- what a layout's record promises
 

@@ -13,7 +13,7 @@ use mir.Val.{Fits}
 use borrow.Author.Tests.{le-ltb}
 use Rattle.binary32.specs.Blend.{along, lerp}
 use Rattle.cell.specs.declared.Cell.{Cell}
-use Rattle.lookup.specs.Lookup.{Grid, part, lookup}
+use Rattle.lookup.specs.Lookup.{Grid, part, lookupWith, lookup}
 use Rattle.lookup.specs.Places.{within, reach, cellsAt, answer}
 use Rattle.lookup.proofs.Part.{from-drop, from-length, drop-within}
 use Rattle.lookup.proofs.Room.{Room}
@@ -56,7 +56,7 @@ module _ (low high : List ℕ) (w : List Float) where
   lookup-last : (f : Grid) (k : ℕ) → (k ≡ 2 → ⊥)
       → blend (suc k) (lookup (part f (getD low k 0)) (cells k)) (lookup (part f (getD high k 0)) (cells k)) (getD w k nan)
       ≡ lookup f (cells (suc k))
-  unfolding lookup
+  unfolding lookupWith
   lookup-last f zero other = refl
   lookup-last f (suc zero) other = refl
   lookup-last f (suc (suc zero)) other = absurd (other refl)
@@ -65,7 +65,7 @@ module _ (low high : List ℕ) (w : List Float) where
   -- n inks in the table part s
   module _ (s : List Float) (n : ℕ) where
     pub no-ink : n ≡ 0 → getD s 0 nan ≡ answer s (cells n) 0
-    unfolding lookup
+    unfolding lookupWith
     no-ink none = rw none
 
     module _ (some : n ≡ 0 → ⊥) where

@@ -14,7 +14,7 @@ use Rattle.cell.specs.declared.Cell.{Cell}
 use Rattle.cell.specs.Rule.{inkCell, scale}
 use Rattle.layout.specs.Order.{index, Steps}
 use Rattle.layout.specs.Lengths.{lengthRefusal}
-use Rattle.lookup.specs.Lookup.{Grid, node, lookup}
+use Rattle.lookup.specs.Lookup.{Grid, node, lookupWith, never}
 use Rattle.lookup.specs.Table.{cells, nanRefusal}
 
 -- the sum of a list of distances
@@ -57,9 +57,12 @@ scaled [] cs = []
 scaled (s ∷ ss) [] = []
 scaled (s ∷ ss) (c ∷ cs) = scale s c ∷ scaled ss cs
 
--- the answer at output o of cells in a part of the table
+-- the answer at output o of cells in a part of the table, with the weights that are to be skipped, and without
+abbrev pub answerBy : (Float → Bool) → List Float → List Cell → ℕ → Float
+answerBy skip part cs o = lookupWith skip (within part o) cs
+
 abbrev pub answer : List Float → List Cell → ℕ → Float
-answer part cs o = lookup (within part o) cs
+answer part cs o = answerBy never part cs o
 
 -- ---- a grid with a size and a filling size for each ink, first ink first
 
@@ -86,8 +89,8 @@ pub record Promised (filling sizes : List ℕ) (n m : ℕ) : Type 0 where
   pub whole : getD filling 0 0 * getD sizes 0 0 ≡ product (lastFirst n sizes) * m
 
 -- the answer at output o in a table of the sizes gs, last ink first, with m outputs
-abbrev pub answerIn : List ℕ → ℕ → List Float → List Float → ℕ → Float
-answerIn gs m table xs o = lookup (λ ks. getD table (index gs ks * m + o) nan) (cells gs xs)
+abbrev pub answerIn : (Float → Bool) → List ℕ → ℕ → List Float → List Float → ℕ → Float
+answerIn skip gs m table xs o = lookupWith skip (λ ks. getD table (index gs ks * m + o) nan) (cells gs xs)
 
 -- no NaN is among the first n inputs
 abbrev pub NoNans : List Float → ℕ → Type 0
@@ -99,10 +102,13 @@ pub record Settled (answer : ℕ → Float) (m : ℕ) (inputs old : List Float) 
   pub entries : now ≡ left r answer m old
 
 -- the same in a grid of the sizes of the inks, first ink first
+abbrev pub SettledWith : (Float → Bool) → List ℕ → ℕ → List Float → List Float → List Float → ℕ → List Float → Type 0
+SettledWith skip sizes m table inputs old r now = Settled (answerIn skip (lastFirst (length inputs) sizes) m table inputs) m inputs old r now
+
 abbrev pub SettledIn : List ℕ → ℕ → List Float → List Float → List Float → ℕ → List Float → Type 0
-SettledIn sizes m table inputs old r now = Settled (answerIn (lastFirst (length inputs) sizes) m table inputs) m inputs old r now
+SettledIn sizes m table inputs old r now = SettledWith never sizes m table inputs old r now
 
 -- what is owed after an accepted layout: the number r, and the answer buffer afterwards, `now`, which was `old`
-pub record Answered (gs : List ℕ) (n m : ℕ) (table inputs old : List Float) (r : ℕ) (now : List Float) : Type 0 where
+pub record Answered (skip : Float → Bool) (gs : List ℕ) (n m : ℕ) (table inputs old : List Float) (r : ℕ) (now : List Float) : Type 0 where
   pub number : r ≡ lengthRefusal (product gs * m) n (length table) (length inputs) (cond (ltb (length old) m) 8 (nanRefusal inputs))
-  pub entries : now ≡ left r (answerIn gs m table inputs) m old
+  pub entries : now ≡ left r (answerIn skip gs m table inputs) m old

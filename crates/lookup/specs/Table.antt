@@ -14,7 +14,7 @@ use Rattle.cell.specs.Rule.{inkCell}
 use Rattle.layout.specs.declared.MultidimensionalLut.{MultidimensionalLut}
 use Rattle.layout.specs.Order.{index}
 use Rattle.layout.specs.Layout.{laidOf, IsLayout, inkSizes, entries}
-use Rattle.lookup.specs.Lookup.{Grid, lookup}
+use Rattle.lookup.specs.Lookup.{Grid, lookupWith, never}
 
 -- output o of each node: a node's m outputs stand together, in ICC.1's order of the nodes
 abbrev pub output : MultidimensionalLut → List Float → ℕ → Grid
@@ -25,9 +25,12 @@ unfoldable pub cells : List ℕ → List Float → List Cell
 cells [] xs = []
 cells (g ∷ gs) xs = inkCell (length gs) g (getD xs (length gs) nan) ∷ cells gs xs
 
--- the answer at output o
-unfoldable pub answerAt : MultidimensionalLut → List Float → List Float → ℕ → Float
-answerAt lut table xs o = lookup (output lut table o) (cells (inkSizes lut) xs)
+-- the answer at output o, with the weights that are to be skipped, and without
+unfoldable pub answerWith : (Float → Bool) → MultidimensionalLut → List Float → List Float → ℕ → Float
+answerWith skip lut table xs o = lookupWith skip (output lut table o) (cells (inkSizes lut) xs)
+
+abbrev pub answerAt : MultidimensionalLut → List Float → List Float → ℕ → Float
+answerAt lut table xs o = answerWith never lut table xs o
 
 -- document 02, E8: 16 where some input is NaN
 abbrev pub nanRefusal : List Float → ℕ
@@ -43,17 +46,23 @@ refusal laid lut table inputs room =
     (nanRefusal inputs))))
 
 -- what a lookup owes: its number r, and the answer buffer afterwards, `now`, which was `old`
-pub record Looked (lut : MultidimensionalLut) (table inputs old : List Float) (r : ℕ) (now : List Float) : Type 0 where
+pub record LookedWith (skip : Float → Bool) (lut : MultidimensionalLut) (table inputs old : List Float) (r : ℕ) (now : List Float) : Type 0 where
   pub laid : Bool
   pub decides : Decides laid (IsLayout lut)
   pub number : r ≡ refusal laid lut (length table) inputs (length old)
-  pub entries : now ≡ left r (answerAt lut table inputs) (lut .«output_inks») old
+  pub entries : now ≡ left r (answerWith skip lut table inputs) (lut .«output_inks») old
+
+abbrev pub Looked : MultidimensionalLut → List Float → List Float → List Float → ℕ → List Float → Type 0
+Looked lut table inputs old r now = LookedWith never lut table inputs old r now
 
 -- laid out by sizes and counts: 1, 2, 3, 5, then 6, 7, 8, 16. An accepted layout's record is a layout's, `true`: no 9 is given
 abbrev pub refusalBySizes : List ℕ → ℕ → ℕ → ℕ → List Float → ℕ → ℕ
 refusalBySizes sizes n m table inputs room = orElse (laidOf sizes n m .refusal) (refusal true (laidOf sizes n m .lut) table inputs room)
 
 -- what a lookup by sizes owes
-pub record LookedBySizes (sizes : List ℕ) (n m : ℕ) (table inputs old : List Float) (r : ℕ) (now : List Float) : Type 0 where
+pub record LookedBySizesWith (skip : Float → Bool) (sizes : List ℕ) (n m : ℕ) (table inputs old : List Float) (r : ℕ) (now : List Float) : Type 0 where
   pub number : r ≡ refusalBySizes sizes n m (length table) inputs (length old)
-  pub entries : now ≡ left (refusalBySizes sizes n m (length table) inputs (length old)) (answerAt (laidOf sizes n m .lut) table inputs) m old
+  pub entries : now ≡ left (refusalBySizes sizes n m (length table) inputs (length old)) (answerWith skip (laidOf sizes n m .lut) table inputs) m old
+
+abbrev pub LookedBySizes : List ℕ → ℕ → ℕ → List Float → List Float → List Float → ℕ → List Float → Type 0
+LookedBySizes sizes n m table inputs old r now = LookedBySizesWith never sizes n m table inputs old r now

@@ -5,7 +5,10 @@ use mathlib.Core.Path.{_≡_, sym, ap, _∙_}
 use mathlib.Core.List.{List}
 use lib.Ieee.{Float}
 use Rattle.outcome.specs.Outcome.{OneOutcome}
-use Rattle.lookup.proofs.Unique.{lookup-by-sizes-unique}
+use Rattle.layout.specs.Layout.{laidOf}
+use Rattle.lookup.specs.Lookup.{idle}
+use Rattle.lookup.specs.Idle.{readsAt}
+use Rattle.lookup.proofs.Unique.{one-count, lookup-by-sizes-unique}
 use Rattle.lists.specs.Buffer.{left}
 use Rattle.cell.specs.declared.Cell.{Cell}
 use Rattle.cubes.specs.Blends.{Blend}
@@ -17,6 +20,8 @@ use Rattle.tenahvar.proofs.tenahvar_total.Kinds as total-kinds
 use Rattle.tenahvar.proofs.tenahvar_total.Reads as total-reads
 use Rattle.tenahvar.proofs.tenahvar_lookup.Kinds as lookup-kinds
 use Rattle.tenahvar.proofs.tenahvar_lookup.Reads as lookup-reads
+use Rattle.tenahvar.proofs.tenahvar_lookup_skipping.Kinds as lookup-skipping-kinds
+use Rattle.tenahvar.proofs.tenahvar_lookup_skipping.Reads as lookup-skipping-reads
 use Rattle.tenahvar.proofs.tenahvar_node.Kinds as node-kinds
 use Rattle.tenahvar.proofs.tenahvar_node.Reads as node-reads
 use Rattle.tenahvar.proofs.tenahvar_cut_slab.Kinds as cut-slab-kinds
@@ -48,6 +53,14 @@ tenahvar-total-unique κs a x y ws vs p q =
 
 pub tenahvar-lookup-unique : OneOutcome 4 lookup-kinds.ps lookup-kinds.r lookup-reads.Post
 tenahvar-lookup-unique = lookup-by-sizes-unique
+
+pub tenahvar-lookup-skipping-unique : OneOutcome 5 lookup-skipping-kinds.ps lookup-skipping-kinds.r lookup-skipping-reads.Post
+tenahvar-lookup-skipping-unique κs a x y ws vs p q =
+    let number = p .looked .number ∙ sym (q .looked .number) in
+    let reads = readsAt idle (laidOf (a .0 .now) (a .1 .0) (a .1 .1 .0) .lut) (a .1 .1 .1 .1 .0 .now) in
+    let count = one-count reads number (p .counted) (q .counted) in
+    let entries = p .looked .entries ∙ sym (q .looked .entries) in
+    (number, λ i. (tt, (tt, (tt, (tt, (tt, (entries i, (count i, tt))))))))
 
 pub tenahvar-node-unique : OneOutcome 4 node-kinds.ps node-kinds.r node-reads.Post
 tenahvar-node-unique κs a x y ws vs p q =
@@ -100,6 +113,9 @@ tenahvar-total-asks-nothing κs a = tt
 
 pub tenahvar-lookup-asks-nothing : (κs : _) (a : _) → lookup-reads.Pre κs a
 tenahvar-lookup-asks-nothing κs a = tt
+
+pub tenahvar-lookup-skipping-asks-nothing : (κs : _) (a : _) → lookup-skipping-reads.Pre κs a
+tenahvar-lookup-skipping-asks-nothing κs a = tt
 
 pub tenahvar-node-asks-nothing : (κs : _) (a : _) → node-reads.Pre κs a
 tenahvar-node-asks-nothing κs a = tt

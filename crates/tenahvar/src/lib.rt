@@ -3,6 +3,7 @@ use cell::Cell;
 ghost use Rattle.cubes.specs.Blends.{pyramid, prism, trilinear};
 ghost use Rattle.tenahvar.specs.Layout.{LaidOut, Totalled};
 ghost use Rattle.lookup.specs.Table.{LookedBySizes};
+ghost use Rattle.lookup.specs.Idle.{LookedSkippingBySizes};
 ghost use Rattle.tenahvar.specs.Node.{NodeFound};
 ghost use Rattle.tenahvar.specs.Slab.{SlabTaken};
 ghost use Rattle.tenahvar.specs.Weights.{RangedInto};
@@ -62,6 +63,26 @@ pub extern "C" fn tenahvar_lookup(
     ensures { λ r. ⌜ LookedBySizes (now (sizes .entry)) n m (now (table .entry)) (now (inputs .entry)) (now (answer .entry)) r (now (answer .exit)) ⌝ }
 {
     walk::lookup_by_sizes(sizes, n, m, table, inputs, answer)
+}
+
+// Lays out, then looks up with skipping: a lookup's refusals. On 0 the first m entries of `answer` are set. `reads` is how many
+// nodes were read, and on a refusal 0.
+#[no_mangle]
+pub extern "C" fn tenahvar_lookup_skipping(
+    sizes: &[u8; 16],
+    n: usize,
+    m: usize,
+    table: &[f32],
+    inputs: &[f32],
+    answer: &mut [f32],
+    reads: &mut u32,
+) -> u32
+    ensures { λ r. ⌜ LookedSkippingBySizes (now (sizes .entry)) n m (now (table .entry)) (now (inputs .entry)) (now (answer .entry)) r (now (reads .exit))
+        (now (answer .exit)) ⌝ }
+{
+    let counted = walk::skipping_by_sizes(sizes, n, m, table, inputs, answer);
+    *reads = counted.reads;
+    counted.refusal
 }
 
 // Lays out, then finds the node: refusals 1, 2, 3, 5, then 6, 7, 10. On 0 `offset` is where its m entries start in the table.

@@ -8,18 +8,11 @@ use lib.Ieee.{Float}
 use lib.ListN.{length, drop}
 use Rattle.binary32.specs.Blend.{lerp}
 use Rattle.cell.specs.declared.Cell.{Cell}
-use Rattle.lookup.specs.Lookup.{Grid, part, lookup}
+use Rattle.lookup.specs.Lookup.{Grid, never, lookup}
 use Rattle.lookup.specs.Places.{within, reach, answer}
+use Rattle.lookup.proofs.More.{lookup-more}
 use Rattle.lookup.proofs.Part.{drop-within}
 use Rattle.walk.specs.Walk.{above}
-
--- one ink more than three or more
-lookup-more : (f : Grid) (h : Cell) (cs : List Cell) → 3 ≤ length cs → lookup f (h ∷ cs) ≡ lerp (lookup (part f (h .x)) cs) (lookup (part f (h .«x_n»)) cs) (h .w)
-unfolding lookup
-lookup-more f h [] few = absurd (omega arith)
-lookup-more f h (c ∷ []) few = absurd (omega arith)
-lookup-more f h (d ∷ c ∷ []) few = absurd (omega arith)
-lookup-more f h (e ∷ d ∷ c ∷ cs) few = refl
 
 -- hs above three cells
 module _ (cx cy cz : Cell) where
@@ -37,7 +30,7 @@ module _ (cx cy cz : Cell) where
         ap₂ (λ (a b : Float). lerp a b (h .w))
         (above-answer hs (drop (h .x) table) ∙ ap (λ (f : Grid). lookup f (over hs)) (drop-within table (h .x) o))
         (above-answer hs (drop (h .«x_n») table) ∙ ap (λ (f : Grid). lookup f (over hs)) (drop-within table (h .«x_n») o))
-        ∙ sym (lookup-more (within table o) h (over hs) (three-or-more hs))
+        ∙ sym (lookup-more never (within table o) h (over hs) (three-or-more hs))
 
 -- what more inks add to the reach
 pub reach-over : (hs cs : List Cell) → reach (hs ++ cs) ≡ reach hs + reach cs

@@ -1,10 +1,10 @@
 -- The inks of an accepted layout by their steps: within the table, and the answers are those of the table. Assumes nothing.
-use Prim.Native.Nat.{ℕ, zero, suc, _+_, _-_, _*_, _<_, _≤_}
+use Prim.Native.Nat.{ℕ, zero, suc, _+_, _-_, _*_, _^_, _<_, _≤_}
 use native.Mathlib.Omega.{arith}
 use native.Mathlib.Nat.{zero-add}
 use native.Mathlib.Decide.{decLt}
 use mathlib.Core.Path.{_≡_, refl, ap, sym, subst, _∙_}
-use mathlib.Core.Bool.{false}
+use mathlib.Core.Bool.{Bool, false}
 use mathlib.Core.List.{List, [], _∷_, _++_}
 use lib.Ieee.{Float, nan, isNan}
 use lib.ListN.{length, getD, take, drop, length-drop, length-append, List·getD-append}
@@ -14,16 +14,21 @@ use Rattle.lists.specs.Lists.{some, lastFirst, product}
 use Rattle.lists.specs.Buffer.{written}
 use Rattle.lists.proofs.Buffer.{written-is}
 use Rattle.cell.specs.declared.Cell.{Cell}
-use Rattle.lookup.specs.Places.{reach, firstInks, answer, Promised, answerIn, Settled}
+use Rattle.lookup.specs.Lookup.{never}
+use Rattle.lookup.specs.Places.{reach, firstInks, answerBy, answer, Promised, answerIn, Settled}
+use Rattle.lookup.specs.Idle.{reads, weightsOf}
+use Rattle.lookup.proofs.Grid.{inks-weights}
 use Rattle.lookup.proofs.Part.{from-length}
 use Rattle.walk.specs.declared.Plan.{Plan}
 use Rattle.walk.specs.Blocks.{Gives}
 use Rattle.walk.specs.Steps.{stepCell, stepsAt, stepped, lows, Weighed, planFor, tetraOf, Near}
 use Rattle.walk.specs.Walk.{above}
+use Rattle.walk.specs.Kept.{keptAt, readsIn}
 use Rattle.walk.proofs.Above.{above-answer, reach-over}
 use Rattle.walk.proofs.Tetrahedron.{near, plan-answers}
 use Rattle.walk.proofs.Reading.{Proper, cells-proper, cells-reach, cells-done}
-use Rattle.walk.proofs.Stepping.{stepped-answer, stepped-reach}
+use Rattle.walk.proofs.Stepping.{stepped-answer, stepped-reach, stepped-weights}
+use Rattle.walk.proofs.Kept.{Light, light-kept, reach-kept, kept-answer, kept-reads, three-first}
 
 -- ---- the weights in an array
 
@@ -35,16 +40,20 @@ abbrev others : List Cell → List Cell
 others [] = []
 others (c ∷ cs) = cs
 
-weighed : (step : List ℕ) (w : List Float) (n : ℕ) (cs : List Cell) → Proper cs → stepsAt step w 0 n ≡ stepped cs → Weighed w n
-weighed step w zero cs proper is i h = absurd (omega arith)
-weighed step w (suc n) [] proper is i h = absurd (let e = ap length is in omega (arith, e))
-weighed step w (suc n) (c ∷ cs) proper is i h =
+weighed : (step : List ℕ) (w : List Float) (n : ℕ) (cs : List Cell) → Light cs → stepsAt step w 0 n ≡ cs → Weighed w n
+weighed step w zero cs light is i h = absurd (omega arith)
+weighed step w (suc n) [] light is i h = absurd (let e = ap length is in omega (arith, e))
+weighed step w (suc n) (c ∷ cs) light is i h =
     elim (decLt i n) [
-      | yes low ↦ weighed step w n cs (proper .1) (ap others is) i low
+      | yes low ↦ weighed step w n cs (light .1) (ap others is) i low
       | no high ↦
           let last : i ≡ n = omega arith in
-          rw last (subst (λ (t : Float). Below 1 t) (sym (ap (λ (k : ℕ). getD w k nan) (sym (zero-add n)) ∙ ap first-weight is)) (proper .0 .1))
+          rw last (subst (λ (t : Float). Below 1 t) (sym (ap (λ (k : ℕ). getD w k nan) (sym (zero-add n)) ∙ ap first-weight is)) (light .0))
     ]
+
+light-steps : (cs : List Cell) → Proper cs → Light (stepped cs)
+light-steps [] proper = tt
+light-steps (c ∷ cs) proper = (proper .0 .1, light-steps cs (proper .1))
 
 -- ---- the first m entries of a buffer, lent and given
 
@@ -80,23 +89,49 @@ module _ (filling sizes : List ℕ) (xs : List Float) (m : ℕ) (laid : Promised
     pub part-reach : reach (stepped cs) + m ≤ length (take (length table - at) (drop at table))
     part-reach = rw from-length (omega (arith, base, stepped-reach cs proper, cells-reach filling sizes xs m laid table enough n cs are (omega arith)))
 
-    pub part-answers : (o : ℕ) → answer (take (length table - at) (drop at table)) (stepped cs) o ≡ answer table cs o
-    part-answers o = ap (λ (a : ℕ). answer (take (length table - a) (drop a table)) (stepped cs) o) base ∙ stepped-answer table cs proper o
+    pub part-answers : (skip : Float → Bool) (o : ℕ) → answerBy skip (take (length table - at) (drop at table)) (stepped cs) o ≡ answerBy skip table cs o
+    part-answers skip o = ap (λ (a : ℕ). answerBy skip (take (length table - a) (drop a table)) (stepped cs) o) base ∙ stepped-answer skip table cs proper o
 
-    -- the inks in arrays
-    module _ (step : List ℕ) (w : List Float) (steps : stepsAt step w 0 n ≡ stepped cs) where
-      pub array-weights : Weighed w n
-      array-weights = weighed step w n cs proper steps
+    -- the inks in arrays, and those of them that are kept
+    module _ (step : List ℕ) (w : List Float) (steps : stepsAt step w 0 n ≡ stepped cs) (three : 3 ≤ n)
+        (skip : Float → Bool) (step′ : List ℕ) (w′ : List Float) (r : ℕ) (kept-are : stepsAt step′ w′ 0 r ≡ keptAt skip step w n) where
+      abbrev from : List Float
+      from = take (length table - at) (drop at table)
 
-      pub array-reach : reach (stepsAt step w 0 n) + m ≤ length (take (length table - at) (drop at table))
-      array-reach = rw steps part-reach
+      all-are : stepsAt step w 3 (n - 3) ++ stepsAt step w 0 3 ≡ stepped cs
+      all-are = sym (three-first step w n three) ∙ steps
 
-      pub array-done : some isNan xs ≡ false → (old part : List Float) → m ≤ length old → Gives (answer (take (length table - at) (drop at table)) (stepsAt step w 0 n)) m (take m old) part
-          → Settled (answerIn (lastFirst (length xs) sizes) m table xs) m xs old 0 (part ++ drop m old)
-      array-done none old part room gives =
-          cells-done filling sizes xs m laid table enough n cs are is none (answer table cs) (λ o h. refl) old (part ++ drop m old)
-          (prefix-written (answer table cs) m old part room
-          record { room = gives .room; answers = λ o h. gives .answers o h ∙ ap (λ (l : List Cell). answer (take (length table - at) (drop at table)) l o) steps ∙ part-answers o })
+      pub array-weights : Weighed w′ r
+      array-weights =
+          weighed step′ w′ r (keptAt skip step w n)
+          (light-kept skip (stepsAt step w 3 (n - 3)) (stepsAt step w 0 3) (subst Light (sym all-are) (light-steps cs proper)))
+          kept-are
+
+      pub array-reach : reach (stepsAt step′ w′ 0 r) + m ≤ length from
+      array-reach =
+          let fewer = reach-kept skip (stepsAt step w 3 (n - 3)) (stepsAt step w 0 3) in
+          let these = ap reach kept-are in
+          let all = ap reach all-are in
+          omega (arith, fewer, these, all, part-reach)
+
+      answers : (o : ℕ) → answer from (stepsAt step′ w′ 0 r) o ≡ answerBy skip table cs o
+      answers o =
+          ap (λ (l : List Cell). answer from l o) kept-are
+          ∙ kept-answer skip step w o (n - 3) from
+          ∙ ap (λ (l : List Cell). answerBy skip from l o) all-are
+          ∙ part-answers skip o
+
+      pub array-done : some isNan xs ≡ false → (old now : List Float) → m ≤ length old → Gives (answer from (stepsAt step′ w′ 0 r)) m (take m old) now
+          → Settled (answerIn skip (lastFirst (length xs) sizes) m table xs) m xs old 0 (now ++ drop m old)
+      array-done none old now room gives =
+          cells-done filling sizes xs m laid table enough n cs are skip is none (answerBy skip table cs) (λ o h. refl) old (now ++ drop m old)
+          (prefix-written (answerBy skip table cs) m old now room
+          record { room = gives .room; answers = λ o h. gives .answers o h ∙ answers o })
+
+      pub array-reads : 6 * 2 ^ (r - 3) ≡ readsIn skip (lastFirst (length xs) sizes) xs
+      array-reads =
+          sym (kept-reads skip step w n three step′ w′ r kept-are)
+          ∙ ap (reads skip) (ap weightsOf steps ∙ stepped-weights cs ∙ ap weightsOf are ∙ inks-weights filling sizes xs m laid table enough n is)
 
 -- ---- three inks, and hs above them
 
@@ -124,8 +159,8 @@ module _ (filling sizes : List ℕ) (xs : List Float) (m : ℕ) (laid : Promised
         omega (arith, far, over, part-reach filling sizes xs m laid table enough n is (hs ++ (e ∷ d ∷ c ∷ [])) all at base)
 
     pub cube-done : some isNan xs ≡ false → (old now : List Float) → now ≡ written (λ o. above (tetraOf p o) (stepped hs) part) m old
-        → Settled (answerIn (lastFirst (length xs) sizes) m table xs) m xs old 0 now
-    cube-done none = cells-done filling sizes xs m laid table enough n (hs ++ (e ∷ d ∷ c ∷ [])) all is none (λ o. above (tetraOf p o) (stepped hs) part) same
+        → Settled (answerIn never (lastFirst (length xs) sizes) m table xs) m xs old 0 now
+    cube-done none = cells-done filling sizes xs m laid table enough n (hs ++ (e ∷ d ∷ c ∷ [])) all never is none (λ o. above (tetraOf p o) (stepped hs) part) same
       where
         same : (o : ℕ) → o < m → above (tetraOf p o) (stepped hs) part ≡ answer table (hs ++ (e ∷ d ∷ c ∷ [])) o
         same o h =
@@ -134,4 +169,4 @@ module _ (filling sizes : List ℕ) (xs : List Float) (m : ℕ) (laid : Promised
             ∙ plan-answers (c .«x_n» - c .x) (d .«x_n» - d .x) (e .«x_n» - e .x) (c .w) (d .w) (e .w) (cube .1 .1 .0 .1) (cube .1 .0 .1) (cube .0 .1) t o)
             (stepped hs) part
             ∙ ap (λ (l : List Cell). answer part l o) (sym (stepped-over hs (e ∷ d ∷ c ∷ [])))
-            ∙ part-answers filling sizes xs m laid table enough n is (hs ++ (e ∷ d ∷ c ∷ [])) all at base o
+            ∙ part-answers filling sizes xs m laid table enough n is (hs ++ (e ∷ d ∷ c ∷ [])) all at base never o

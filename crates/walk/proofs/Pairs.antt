@@ -11,7 +11,7 @@ use mir.Syntax.{w64}
 use mir.Val.{Fits}
 use Rattle.binary32.specs.Blend.{along}
 use Rattle.cell.specs.declared.Cell.{Cell}
-use Rattle.lookup.specs.Lookup.{node, lookup}
+use Rattle.lookup.specs.Lookup.{node, lookupWith, lookup}
 use Rattle.lookup.specs.Places.{reach, answer}
 use Rattle.lookup.proofs.Room.{Room}
 
@@ -45,7 +45,7 @@ module _ (c d : Cell) (m o n : ℕ) (less : o < m) (room : Room n) where
 
 module _ (part : List Float) (o : ℕ) where
   pub one-ink : (c : Cell) → along (getD part (c .x + o) nan) (getD part (c .«x_n» + o) nan) (c .w) ≡ answer part (c ∷ []) o
-  unfolding lookup
+  unfolding lookupWith
   one-ink c = simp add-zero
 
   pub two-inks : (c d : Cell) →
@@ -54,5 +54,5 @@ module _ (part : List Float) (o : ℕ) where
       (along (getD part (d .«x_n» + c .x + o) nan) (getD part (d .«x_n» + c .«x_n» + o) nan) (c .w))
       (d .w)
       ≡ answer part (d ∷ c ∷ []) o
-  unfolding lookup
+  unfolding lookupWith
   two-inks c d = simp add-zero

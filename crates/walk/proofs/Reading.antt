@@ -20,7 +20,7 @@ use Rattle.cell.specs.declared.Found.the-variants as found-as
 use Rattle.cell.specs.Rule.{foundOf}
 use Rattle.cell.proofs.Said.{found-nan}
 use Rattle.cell.proofs.Laws.{ink-on-grid}
-use Rattle.lookup.specs.Places.{placedInk, firstInks, answer, reach, Promised, NoNans, answerIn, Settled}
+use Rattle.lookup.specs.Places.{placedInk, firstInks, answerBy, reach, Promised, NoNans, answerIn, Settled}
 use Rattle.lookup.proofs.Grid.{inks-reach, inks-done}
 use Rattle.lookup.proofs.Nans.{placed-at, numbers-to}
 
@@ -90,10 +90,10 @@ module _ (filling sizes : List ℕ) (xs : List Float) (m : ℕ) (laid : Promised
       let these = ap reach are in
       omega (arith, all, these, reach-grows filling sizes xs k (length xs) few)
 
-  pub cells-done : length xs ≡ k → some isNan xs ≡ false → (f : ℕ → Float) → ((o : ℕ) → o < m → f o ≡ answer table cs o) → (old now : List Float) → now ≡ written f m old
-      → Settled (answerIn (lastFirst (length xs) sizes) m table xs) m xs old 0 now
-  cells-done is none f same old now w =
-      settled-done xs _ m old none now (inks-done filling sizes xs m laid table enough k is cs are old now (w ∙ written-same f (answer table cs) m old same))
+  pub cells-done : (skip : Float → Bool) → length xs ≡ k → some isNan xs ≡ false → (f : ℕ → Float) → ((o : ℕ) → o < m → f o ≡ answerBy skip table cs o) → (old now : List Float) → now ≡ written f m old
+      → Settled (answerIn skip (lastFirst (length xs) sizes) m table xs) m xs old 0 now
+  cells-done skip is none f same old now w =
+      settled-done xs _ m old none now (inks-done filling sizes xs m laid table enough k is skip cs are old now (w ∙ written-same f (answerBy skip table cs) m old same))
 
 -- all inputs read
 pub read-numbers : (filling sizes : List ℕ) (xs : List Float) (k : ℕ) (cs : List Cell) → Read filling sizes xs k cs → length xs ≡ k → some isNan xs ≡ false

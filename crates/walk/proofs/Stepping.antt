@@ -14,9 +14,11 @@ use Rattle.binary32.specs.Blend.{along, square, tetra, lerp}
 use Rattle.lists.specs.Lists.{some}
 use Rattle.cell.specs.declared.Cell.{Cell}
 use Rattle.cell.proofs.Said.{tells-value, tells-none}
-use Rattle.lookup.specs.Lookup.{Grid, part, node, lookup}
-use Rattle.lookup.specs.Places.{sum, within, reach, answer, placedInk, firstInks, NoNans}
+use Rattle.lookup.specs.Lookup.{Grid, part, node, lookupWith}
+use Rattle.lookup.specs.Places.{sum, within, reach, answerBy, placedInk, firstInks, NoNans}
+use Rattle.lookup.specs.Idle.{weightsOf}
 use Rattle.lookup.proofs.Part.{from-drop}
+use Rattle.walk.proofs.Kept.{steps-kept}
 use Rattle.walk.proofs.Reading.{Proper, reach-grows}
 use Rattle.walk.specs.declared.Lowest.{Lowest}
 use Rattle.walk.specs.declared.Lowest.the-variants as lowest
@@ -27,13 +29,13 @@ node-step c true h = omega arith
 node-step c false h = omega arith
 
 -- one node of one more ink
-side : (g : ℕ → Float) (d : ℕ) (others : List Cell) (n x s : ℕ) → n ≡ x + s
-    → lookup (λ ks. g (d + n + sum ks)) others ≡ lookup (λ ks. g (d + n + lows others + sum ks)) (stepped others)
-    → lookup (λ ks. g (d + (n + sum ks))) others ≡ lookup (λ ks. g (d + (x + lows others) + (s + sum ks))) (stepped others)
-side g d others n x s is same =
-    ap (λ (f : Grid). lookup f others) (fun-ext (λ ks. ap g (first (sum ks))))
+side : (skip : Float → Bool) (g : ℕ → Float) (d : ℕ) (others : List Cell) (n x s : ℕ) → n ≡ x + s
+    → lookupWith skip (λ ks. g (d + n + sum ks)) others ≡ lookupWith skip (λ ks. g (d + n + lows others + sum ks)) (stepped others)
+    → lookupWith skip (λ ks. g (d + (n + sum ks))) others ≡ lookupWith skip (λ ks. g (d + (x + lows others) + (s + sum ks))) (stepped others)
+side skip g d others n x s is same =
+    ap (λ (f : Grid). lookupWith skip f others) (fun-ext (λ ks. ap g (first (sum ks))))
     ∙ same
-    ∙ ap (λ (f : Grid). lookup f (stepped others)) (fun-ext (λ ks. ap g (second (lows others) (sum ks))))
+    ∙ ap (λ (f : Grid). lookupWith skip f (stepped others)) (fun-ext (λ ks. ap g (second (lows others) (sum ks))))
   where
     first : (k : ℕ) → d + (n + k) ≡ d + n + k
     first k = omega arith
@@ -57,29 +59,36 @@ three-places : (d x y z a b c a′ b′ c′ : ℕ) → a ≡ x + a′ → b ≡
 three-places d x y z a b c a′ b′ c′ e f g = omega arith
 
 -- in any list of entries, from d on
-by-steps : (g : ℕ → Float) (d : ℕ) (cs : List Cell) → Proper cs → lookup (λ ks. g (d + sum ks)) cs ≡ lookup (λ ks. g (d + lows cs + sum ks)) (stepped cs)
-unfolding lookup
-by-steps g d [] o = ap g (omega arith)
-by-steps g d (c ∷ []) o = ap₂ (λ (a b : ℕ). along (g a) (g b) (c .w)) (one-place d (c .x) (c .x) 0 (lower (c .x))) (one-place d (c .x) (c .«x_n») (c .«x_n» - c .x) (upper (c .x) (c .«x_n») (o .0 .0)))
-by-steps g d (e ∷ c ∷ []) o =
+by-steps : (skip : Float → Bool) (g : ℕ → Float) (d : ℕ) (cs : List Cell) → Proper cs
+    → lookupWith skip (λ ks. g (d + sum ks)) cs ≡ lookupWith skip (λ ks. g (d + lows cs + sum ks)) (stepped cs)
+unfolding lookupWith
+by-steps skip g d [] o = ap g (omega arith)
+by-steps skip g d (c ∷ []) o = ap₂ (λ (a b : ℕ). along (g a) (g b) (c .w)) (one-place d (c .x) (c .x) 0 (lower (c .x))) (one-place d (c .x) (c .«x_n») (c .«x_n» - c .x) (upper (c .x) (c .«x_n») (o .0 .0)))
+by-steps skip g d (e ∷ c ∷ []) o =
     ap (λ (k : Bool → Bool → Float). square k (c .w) (e .w)) (fun-ext λ i. fun-ext λ j. ap g (two-places d (c .x) (e .x) (node c i) (node e j) _ _ (node-step c i (o .1 .0 .0)) (node-step e j (o .0 .0))))
-by-steps g d (h ∷ e ∷ c ∷ []) o =
+by-steps skip g d (h ∷ e ∷ c ∷ []) o =
     ap (λ (f : Bool → Bool → Bool → Float). tetra f (c .w) (e .w) (h .w)) (fun-ext λ i. fun-ext λ j. fun-ext λ k. ap g (three-places d (c .x) (e .x) (h .x) (node c i) (node e j) (node h k) _ _ _ (node-step c i (o .1 .1 .0 .0)) (node-step e j (o .1 .0 .0)) (node-step h k (o .0 .0))))
-by-steps g d (h ∷ e ∷ c ∷ b ∷ cs) o =
-    ap₂ (λ (x y : Float). lerp x y (h .w))
-    (side g d (e ∷ c ∷ b ∷ cs) (h .x) (h .x) 0 (lower (h .x)) (by-steps g (d + h .x) (e ∷ c ∷ b ∷ cs) (o .1)))
-    (side g d (e ∷ c ∷ b ∷ cs) (h .«x_n») (h .x) (h .«x_n» - h .x) (upper (h .x) (h .«x_n») (o .0 .0)) (by-steps g (d + h .«x_n») (e ∷ c ∷ b ∷ cs) (o .1)))
+by-steps skip g d (h ∷ e ∷ c ∷ b ∷ cs) o =
+    ap₂ (λ (x y : Float). cond (skip (h .w)) x (lerp x y (h .w)))
+    (side skip g d (e ∷ c ∷ b ∷ cs) (h .x) (h .x) 0 (lower (h .x)) (by-steps skip g (d + h .x) (e ∷ c ∷ b ∷ cs) (o .1)))
+    (side skip g d (e ∷ c ∷ b ∷ cs) (h .«x_n») (h .x) (h .«x_n» - h .x) (upper (h .x) (h .«x_n») (o .0 .0)) (by-steps skip g (d + h .«x_n») (e ∷ c ∷ b ∷ cs) (o .1)))
 
 -- in the part from the lowest corner on
-pub stepped-answer : (table : List Float) (cs : List Cell) → Proper cs → (o : ℕ) → answer (take (length table - lows cs) (drop (lows cs) table)) (stepped cs) o ≡ answer table cs o
-stepped-answer table cs ordered o =
-    ap (λ (p : List Float). answer p (stepped cs) o) (from-drop table (lows cs))
-    ∙ ap (λ (f : Grid). lookup f (stepped cs)) (fun-ext (λ ks. getD-drop (lows cs) table (sum ks + o) nan ∙ ap (λ (n : ℕ). getD table n nan) (place (lows cs) (sum ks))))
-    ∙ sym (by-steps (λ n. getD table (n + o) nan) 0 cs ordered)
-    ∙ ap (λ (f : Grid). lookup f cs) (fun-ext (λ ks. ap (λ (n : ℕ). getD table (n + o) nan) (zero-add (sum ks))))
+pub stepped-answer : (skip : Float → Bool) (table : List Float) (cs : List Cell) → Proper cs → (o : ℕ)
+    → answerBy skip (take (length table - lows cs) (drop (lows cs) table)) (stepped cs) o ≡ answerBy skip table cs o
+stepped-answer skip table cs ordered o =
+    ap (λ (p : List Float). answerBy skip p (stepped cs) o) (from-drop table (lows cs))
+    ∙ ap (λ (f : Grid). lookupWith skip f (stepped cs)) (fun-ext (λ ks. getD-drop (lows cs) table (sum ks + o) nan ∙ ap (λ (n : ℕ). getD table n nan) (place (lows cs) (sum ks))))
+    ∙ sym (by-steps skip (λ n. getD table (n + o) nan) 0 cs ordered)
+    ∙ ap (λ (f : Grid). lookupWith skip f cs) (fun-ext (λ ks. ap (λ (n : ℕ). getD table (n + o) nan) (zero-add (sum ks))))
   where
     place : (l s : ℕ) → l + (s + o) ≡ 0 + l + s + o
     place l s = omega arith
+
+-- steps leave the weights as they are
+pub stepped-weights : (cs : List Cell) → weightsOf (stepped cs) ≡ weightsOf cs
+stepped-weights [] = refl
+stepped-weights (c ∷ cs) = ap (λ (ws : List Float). c .w ∷ ws) (stepped-weights cs)
 
 -- the lowest corner and the steps reach as far as the cells
 pub stepped-reach : (cs : List Cell) → Proper cs → lows cs + reach (stepped cs) ≡ reach cs
@@ -91,14 +100,6 @@ stepped-reach (c ∷ cs) o = let e = stepped-reach cs (o .1) in let l = o .0 .0 
 pub lows-reach : (filling sizes : List ℕ) (xs : List Float) (n : ℕ) → lows (firstInks filling sizes xs n) ≤ reach (firstInks filling sizes xs n)
 lows-reach filling sizes xs zero = omega arith
 lows-reach filling sizes xs (suc n) = omega (arith, lows-reach filling sizes xs n)
-
--- what is stored at place i changes no place before it
-steps-kept : (step : List ℕ) (w : List Float) (i d : ℕ) (t : Float) (j : ℕ) → j ≤ i → stepsAt (set step i d) (set w i t) 0 j ≡ stepsAt step w 0 j
-steps-kept step w i d t zero h = refl
-steps-kept step w i d t (suc j) h =
-    ap₂ (λ (c : Cell) (cs : List Cell). c ∷ cs)
-    (λ k. stepCell (getD-set-other step i (0 + j) d 0 (λ e. omega arith) k) (getD-set-other w i (0 + j) t nan (λ e. omega arith) k))
-    (steps-kept step w i d t j (omega arith))
 
 -- after i inks
 pub record Stepping (filling sizes : List ℕ) (xs : List Float) (step : List ℕ) (w : List Float) (at i : ℕ) : Type 0 where

@@ -9,7 +9,7 @@ use lib.Ieee.{Float, nan, le}
 use lib.ListN.{length, getD}
 use Rattle.binary32.specs.Blend.{mlaf, rise, terms, six}
 use Rattle.binary32.specs.Range.{Below}
-use Rattle.lookup.specs.Lookup.{node, lookup}
+use Rattle.lookup.specs.Lookup.{node, lookupWith, lookup}
 use Rattle.lookup.specs.Places.{within, answer}
 use Rattle.walk.proofs.Weights.{le-through, le-fails}
 use Rattle.walk.specs.declared.Four.{Four}
@@ -106,7 +106,7 @@ module _ (dx dy dz : ℕ) (rx ry rz : Float) (X : Below 1 rx) (Y : Below 1 ry) (
   stands t o = fun-ext λ i. fun-ext λ j. fun-ext λ k. ap (λ (n : ℕ). at t (n + o)) (let a = node-step dx rx i in let b = node-step dy ry j in let c = node-step dz rz k in omega (arith, a, b, c))
 
   pub plan-answers : (t : List Float) (o : ℕ) → tetraOf (planFor dx dy dz rx ry rz) o t ≡ answer t (stepCell dz rz ∷ stepCell dy ry ∷ stepCell dx rx ∷ []) o
-  unfolding lookup
+  unfolding lookupWith
   plan-answers t o =
       let xy = le ry rx in
       let yz = le rz ry in

@@ -1,8 +1,10 @@
 // Five inks and more: all corners of the inks from the fourth on into a work array, then pairs folded, ink 4 first.
+use crate::Counted;
 use crate::Four;
 use crate::Lowest;
 use crate::cells;
 use crate::corners;
+use crate::count;
 use crate::fold;
 use crate::lanes;
 ghost use mathlib.Core.Path.{_≡_};
@@ -10,10 +12,11 @@ ghost use mathlib.Core.List.{[]};
 ghost use Prim.Native.Nat.{ℕ, _+_, _-_, _*_, _^_, _≤_, _<_};
 ghost use lib.ListN.{length, getD};
 ghost use Rattle.lists.specs.Lists.{lastFirst, product};
-ghost use Rattle.lookup.specs.Places.{answer, reach, Promised, SettledIn};
+ghost use Rattle.lookup.specs.Places.{answer, reach, Promised, SettledWith};
 ghost use Rattle.walk.specs.Blocks.{Holds, Gives};
 ghost use Rattle.walk.specs.Steps.{stepsAt, Weighed};
 ghost use Rattle.walk.specs.Walk.{above, blended, distance};
+ghost use Rattle.walk.specs.Kept.{skipOf, readsIn, Counts};
 
 // A block of three inks and k more in a part of the table: all corners, then the folds.
 fn inner(
@@ -223,7 +226,7 @@ fn blend(t: &[f32], n: usize, step: &[usize; 16], w: &[f32; 16], m: usize, out: 
     highest(t, step, w, n - 9, m, out)
 }
 
-// The m answers, or 16 for a NaN input.
+// The m answers and the reads, or 16 for a NaN input.
 pub(crate) fn many(
     filling: &[u32; 16],
     sizes: &[u8; 16],
@@ -231,19 +234,22 @@ pub(crate) fn many(
     table: &[f32],
     inputs: &[f32],
     answer: &mut [f32],
-) -> u32
+    skipping: bool,
+) -> Counted
     requires { ⌜ Promised (now filling) (now sizes) (length (now inputs)) m × (3 ≤ length (now inputs)) ⌝ }
     requires { ⌜ product (lastFirst (length (now inputs)) (now sizes)) * m ≤ length (now table) ⌝ }
     requires room { ⌜ m ≤ length (now answer) ⌝ }
-    ensures { λ r. ⌜ SettledIn (now (sizes .entry)) m (now (table .entry)) (now (inputs .entry)) (now (answer .entry)) r (now (answer .exit)) ⌝ }
+    ensures { λ r. ⌜ SettledWith (skipOf skipping) (now (sizes .entry)) m (now (table .entry)) (now (inputs .entry)) (now (answer .entry)) (r .refusal)
+        (now (answer .exit)) ⌝ }
+    ensures reads { λ r. ⌜ Counts (readsIn (skipOf skipping) (lastFirst (length (now (inputs .entry))) (now (sizes .entry))) (now (inputs .entry))) r ⌝ }
 {
     let mut step = [0usize; 16];
     let mut w = [0.0f32; 16];
     let lowest = cells::cells(filling, sizes, inputs, &mut step, &mut w);
     let Lowest::At(at) = lowest else {
-        return 16;
+        return count::tally(16, 0);
     };
-    let n = inputs.len();
+    let n = cells::keep(&mut step, &mut w, inputs.len(), skipping);
     blend(&table[at..], n, &step, &w, m, &mut answer[..m]);
-    0
+    count::tally(0, count::reads_of(n))
 }

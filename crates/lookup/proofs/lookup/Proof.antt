@@ -14,6 +14,7 @@ use Rattle.layout.specs.Layout.{IsLayout, inkSizes, entries}
 use Rattle.layout.specs.Lengths.{lengthRefusal}
 use Rattle.layout.proofs.Laws.{first-filling}
 use Rattle.layout.proofs.Lengths.{Passed}
+use Rattle.lookup.specs.Lookup.{never}
 use Rattle.lookup.specs.Table.{Looked}
 use Rattle.lookup.specs.Places.{answerIn, Promised, Settled, Answered}
 use Rattle.lookup.proofs.Grid.{laid-of}
@@ -51,19 +52,19 @@ module _ (c : tie.After-length-refusal) where
       subst (λ (t : ℕ). c .length-refusal .result ≡ lengthRefusal t (lut .«input_inks») (length table) (length inputs) 0)
       (c .before .entry-count .ensures ∙ first-filling lut is) (c .length-refusal .ensures)
 
-  looked : (r : ℕ) (now : List Float) → Answered (inkSizes lut) (lut .«input_inks») (lut .«output_inks») table inputs old r now
+  looked : (r : ℕ) (now : List Float) → Answered never (inkSizes lut) (lut .«input_inks») (lut .«output_inks») table inputs old r now
       → Looked lut table inputs old r now
-  looked = looked-answered lut table inputs old _ (c .before .before .before .is-layout .ensures) laid
+  looked = looked-answered never lut table inputs old _ (c .before .before .before .is-layout .ensures) laid
 
   refused : (c .length-refusal .result ≡ 0 → ⊥) → Looked lut table inputs old (c .length-refusal .result) old
-  refused some = looked _ _ (answered-refused (inkSizes lut) _ _ table inputs old _ number some)
+  refused some = looked _ _ (answered-refused never (inkSizes lut) _ _ table inputs old _ number some)
 
   module _ (none : c .length-refusal .result ≡ 0) where
     passed : Passed true (entries lut) (lut .«input_inks») (length table) (length inputs)
-    passed = answered-passed (inkSizes lut) _ _ table inputs old _ number none
+    passed = answered-passed never (inkSizes lut) _ _ table inputs old _ number none
 
     short : length old < lut .«output_inks» → Looked lut table inputs old 8 old
-    short less = looked _ _ (answered-short (inkSizes lut) _ _ table inputs old _ number none less)
+    short less = looked _ _ (answered-short never (inkSizes lut) _ _ table inputs old _ number none less)
 
     -- what `write` asks and owes, by the number of inputs
     abbrev Ready : ℕ → Type 0
@@ -76,12 +77,12 @@ module _ (c : tie.After-length-refusal) where
 
     abbrev Done : ℕ → List Float → ℕ → Type 0
     Done r now n =
-        Settled (answerIn (lastFirst n (lut .«grid_sizes»)) (lut .«output_inks») table inputs) (lut .«output_inks») inputs old r now
+        Settled (answerIn never (lastFirst n (lut .«grid_sizes»)) (lut .«output_inks») table inputs) (lut .«output_inks») inputs old r now
 
     settled : lut .«output_inks» ≤ length old → (r : ℕ) (now : List Float) → Done r now (length inputs) → Looked lut table inputs old r now
     settled room r now done =
         looked r now
-        (answered-blended (inkSizes lut) _ _ table inputs old _ number none room r now (subst (Done r now) (passed .as-many) done))
+        (answered-blended never (inkSizes lut) _ _ table inputs old _ number none room r now (subst (Done r now) (passed .as-many) done))
 
 pub lookup-spec : {M : Type 1} → statement M
 lookup-spec =
@@ -89,7 +90,7 @@ lookup-spec =
     (tie.spec
     (λ c κs. tt)
     (λ c. let a = c .before .before .before .before .before .args in
-    looked-refused (a .lut) (a .table .now) (a .inputs .now) (a .answer .now) _ (c .before .is-layout .ensures) (c .if1 .taken))
+    looked-refused never (a .lut) (a .table .now) (a .inputs .now) (a .answer .now) _ (c .before .is-layout .ensures) (c .if1 .taken))
     (λ c κs. tt)
     (λ c κs. tt)
     (λ c. refused (c .before) (c .if2 .taken))

@@ -4,6 +4,7 @@ use lib.ListN.{length}
 use Rattle.outcome.proofs.Refused.{refused-first}
 use Rattle.lists.proofs.Buffer.{length-left, unwritten}
 use Rattle.layout.specs.declared.Laid.{Laid}
+use Rattle.lookup.specs.Lookup.{never}
 use Rattle.lookup.proofs.Accepted.{looked-laid}
 use Rattle.lookup.proofs.lookup_by_sizes.Statement.{statement}
 use Rattle.lookup.proofs.lookup_by_sizes.Tie as tie
@@ -20,5 +21,5 @@ lookup-by-sizes-spec =
     (λ c. let accepted = c .before .before .before .before in
     let out = accepted .before .before in
     let a = out .before .before .before .before .before .args in
-    looked-laid (a .sizes .now) (a .n) (a .m) (out .layout .result) (out .layout .ensures) (accepted .if1 .left)
+    looked-laid never (a .sizes .now) (a .n) (a .m) (out .layout .result) (out .layout .ensures) (accepted .if1 .left)
     (a .table .now) (a .inputs .now) (a .answer .now) _ _ (c .before .before .lookup .ensures)))

@@ -5,6 +5,7 @@ use mathlib.Core.List.{List}
 use lib.ListN.{length}
 use Rattle.lists.proofs.Buffer.{unwritten}
 use Rattle.cell.specs.declared.Cell.{Cell}
+use Rattle.lookup.specs.Lookup.{never}
 use Rattle.lookup.specs.Places.{cellsAt}
 use Rattle.lookup.proofs.Grid.{inks-reach, inks-done}
 use Rattle.lookup.proofs.Turns.{same-room}
@@ -41,6 +42,6 @@ write-spec =
     record {
       number = sym (tested .if1 .left) ∙ p .place .ensures .0;
       entries =
-          inks-done (a .filling .now) (a .sizes .now) (a .inputs .now) (a .m) (s .pre .0) (a .table .now) (s .pre .1 .0) _ refl (cells p)
+          inks-done (a .filling .now) (a .sizes .now) (a .inputs .now) (a .m) (s .pre .0) (a .table .now) (s .pre .1 .0) _ refl never (cells p)
           (p .place .ensures .1 (tested .if1 .left)) (a .answer .now) _ (c .before .before .each .ensures);
     }))

@@ -5,12 +5,12 @@ use lib.Dec.{lit<}
 use lib.Ieee.{nan}
 use lib.ListN.{getD}
 use Rattle.binary32.specs.Blend.{tetra, eight}
-use Rattle.lookup.specs.Lookup.{lookup}
+use Rattle.lookup.specs.Lookup.{lookupWith}
 use Rattle.lookup.proofs.value.three.Statement.{statement}
 use Rattle.lookup.proofs.value.three.Tie as tie
 
 returns : tie.Need-returns
-unfolding lookup
+unfolding lookupWith
 returns c =
     let e8 = c .before .before .before .before in
     let e7 = e8 .before in

@@ -28,7 +28,7 @@ returns c =
     let at = c .before .before in
     let s = at .before .before .before .before in
     let one = read-nan (s .args .filling .now) (s .args .sizes .now) (s .args .inputs .now) _ _ (at .ink .ensures) (at .before .loop-test .taken) (c .enum-told .given .1) in
-    (lowest-nan _ _ one, λ none. absurd (true≢false (sym one ∙ none)))
+    (lowest-nan _ _ one, ((λ none. absurd (true≢false (sym one ∙ none))), (at .before .before .loop .inv .steps, at .before .before .loop .inv .weights)))
 
 -- a turn with a cell
 module _ (c : tie.After-struct-known Inv-loop μ-loop) where
@@ -82,5 +82,8 @@ cells-spec =
     let all : l .i ≡ length (s .args .inputs .now) = omega (arith, l .inv .most, c .loop-test .left) in
     let none = some-none isNan nan (s .args .inputs .now) (subst (NoNans (s .args .inputs .now)) all (l .inv .numbers)) in (
       lowest-at (s .args .inputs .now) _ none _ (l .inv .base ∙ ap (λ (n : ℕ). lows (firstInks (s .args .filling .now) (s .args .sizes .now) (s .args .inputs .now) n)) all),
-      λ same. subst (λ (n : ℕ). stepsAt (l .step) (l .w) 0 n ≡ stepped (firstInks (s .args .filling .now) (s .args .sizes .now) (s .args .inputs .now) n)) all (l .inv .standing),
+      (
+        (λ same. subst (λ (n : ℕ). stepsAt (l .step) (l .w) 0 n ≡ stepped (firstInks (s .args .filling .now) (s .args .sizes .now) (s .args .inputs .now) n)) all (l .inv .standing)),
+        (l .inv .steps, l .inv .weights),
+      ),
     )))

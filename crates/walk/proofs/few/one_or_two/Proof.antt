@@ -8,6 +8,7 @@ use lib.ListN.{length, take, drop}
 use borrow.Author.Needs.{needs}
 use Rattle.lists.specs.Lists.{lastFirst}
 use Rattle.cell.specs.declared.Cell.{Cell}
+use Rattle.lookup.specs.Lookup.{never}
 use Rattle.lookup.specs.Places.{reach, answer, answerIn, Settled}
 use Rattle.walk.specs.Blocks.{Gives}
 use Rattle.walk.proofs.Reading.{Read, Proper, read-none, read-more, read-nan, read-numbers, settled-nan, cells-proper, cells-reach, cells-done}
@@ -55,9 +56,9 @@ module _ (k : tie.After-known-told2) where
 -- all answers given in the first m entries
 given-done : (s : tie.Start) (k : ℕ) (cs : List Cell) → Read (s .args .filling .now) (s .args .sizes .now) (s .args .inputs .now) k cs → length (s .args .inputs .now) ≡ k
     → (part : List Float) → Gives (answer (s .args .table .now) cs) (s .args .m) (take (s .args .m) (s .args .answer .now)) part
-    → Settled (answerIn (lastFirst (length (s .args .inputs .now)) (s .args .sizes .now)) (s .args .m) (s .args .table .now) (s .args .inputs .now)) (s .args .m) (s .args .inputs .now) (s .args .answer .now) 0 (part ++ drop (s .args .m) (s .args .answer .now))
+    → Settled (answerIn never (lastFirst (length (s .args .inputs .now)) (s .args .sizes .now)) (s .args .m) (s .args .table .now) (s .args .inputs .now)) (s .args .m) (s .args .inputs .now) (s .args .answer .now) 0 (part ++ drop (s .args .m) (s .args .answer .now))
 given-done s k cs read is part gives =
-    cells-done (s .args .filling .now) (s .args .sizes .now) (s .args .inputs .now) (s .args .m) (s .pre .0 .0) (s .args .table .now) (s .pre .1 .0) k cs (read .are) is (read-numbers _ _ _ k cs read is) (answer (s .args .table .now) cs) (λ o h. refl) (s .args .answer .now) _
+    cells-done (s .args .filling .now) (s .args .sizes .now) (s .args .inputs .now) (s .args .m) (s .pre .0 .0) (s .args .table .now) (s .pre .1 .0) k cs (read .are) never is (read-numbers _ _ _ k cs read is) (answer (s .args .table .now) cs) (λ o h. refl) (s .args .answer .now) _
     (prefix-written (answer (s .args .table .now) cs) (s .args .m) (s .args .answer .now) part (s .pre .1 .1) gives)
 
 pub one-or-two-spec : {M : Type 1} → statement M

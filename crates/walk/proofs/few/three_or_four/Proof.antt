@@ -10,6 +10,7 @@ use Rattle.binary32.specs.Blend.{lerp}
 use Rattle.lists.specs.Lists.{lastFirst}
 use Rattle.lists.specs.Buffer.{written}
 use Rattle.cell.specs.declared.Cell.{Cell}
+use Rattle.lookup.specs.Lookup.{never}
 use Rattle.lookup.specs.Places.{reach, answerIn, Settled}
 use Rattle.walk.specs.declared.Plan.{Plan}
 use Rattle.walk.specs.Blocks.{Gives}
@@ -96,7 +97,7 @@ module _ (c : tie.After-plan-of) where
     room = omega (arith, cube-reach (origin3 .args .filling .now) (origin3 .args .sizes .now) (origin3 .args .inputs .now) (origin3 .args .m) (origin3 .pre .0 .0) (origin3 .args .table .now) (origin3 .pre .1 .0) (first (told (told2 told3))) (second (told2 told3)) (third told3) (three-read told3 .are) (origin3 .pre .0 .1) plan (c .plan-of .ensures) [] 3 is (three-read told3 .are) at base)
 
     done : (given : List Float) → Gives (λ o. tetraOf plan o part) (origin3 .args .m) (take (origin3 .args .m) (origin3 .args .answer .now)) given
-        → Settled (answerIn (lastFirst (length (origin3 .args .inputs .now)) (origin3 .args .sizes .now)) (origin3 .args .m) (origin3 .args .table .now) (origin3 .args .inputs .now)) (origin3 .args .m) (origin3 .args .inputs .now) (origin3 .args .answer .now) 0 (given ++ drop (origin3 .args .m) (origin3 .args .answer .now))
+        → Settled (answerIn never (lastFirst (length (origin3 .args .inputs .now)) (origin3 .args .sizes .now)) (origin3 .args .m) (origin3 .args .table .now) (origin3 .args .inputs .now)) (origin3 .args .m) (origin3 .args .inputs .now) (origin3 .args .answer .now) 0 (given ++ drop (origin3 .args .m) (origin3 .args .answer .now))
     done given gives =
         cube-done (origin3 .args .filling .now) (origin3 .args .sizes .now) (origin3 .args .inputs .now) (origin3 .args .m) (origin3 .pre .0 .0) (origin3 .args .table .now) (origin3 .pre .1 .0) (first (told (told2 told3))) (second (told2 told3)) (third told3) (three-read told3 .are) (origin3 .pre .0 .1) plan (c .plan-of .ensures) [] 3 is (three-read told3 .are) at base (read-numbers _ _ _ 3 _ (three-read told3) is) (origin3 .args .answer .now) _
         (prefix-written (λ o. tetraOf plan o part) (origin3 .args .m) (origin3 .args .answer .now) given (origin3 .pre .1 .1) gives)
@@ -146,7 +147,7 @@ module _ (k : tie.After-known-told4) where
   answers o = lerp (tetraOf (plan planned) o upper-part) (tetraOf (plan planned) o (drop (four .«x_n» - four .x) upper-part)) (four .w)
 
   four-done : (given : List Float) → Gives answers (origin4 .args .m) (take (origin4 .args .m) (origin4 .args .answer .now)) given
-      → Settled (answerIn (lastFirst (length (origin4 .args .inputs .now)) (origin4 .args .sizes .now)) (origin4 .args .m) (origin4 .args .table .now) (origin4 .args .inputs .now)) (origin4 .args .m) (origin4 .args .inputs .now) (origin4 .args .answer .now) 0 (given ++ drop (origin4 .args .m) (origin4 .args .answer .now))
+      → Settled (answerIn never (lastFirst (length (origin4 .args .inputs .now)) (origin4 .args .sizes .now)) (origin4 .args .m) (origin4 .args .table .now) (origin4 .args .inputs .now)) (origin4 .args .m) (origin4 .args .inputs .now) (origin4 .args .answer .now) 0 (given ++ drop (origin4 .args .m) (origin4 .args .answer .now))
   four-done given gives =
       cube-done (origin4 .args .filling .now) (origin4 .args .sizes .now) (origin4 .args .inputs .now) (origin4 .args .m) (origin4 .pre .0 .0) (origin4 .args .table .now) (origin4 .pre .1 .0) (first (told (told2 (told3 planned)))) (second (told2 (told3 planned))) (third (told3 planned)) (three-read (told3 planned) .are) (origin4 .pre .0 .1) (plan planned) (planned .plan-of .ensures) (four ∷ []) 4 all-four (four-read .are) low low-base (read-numbers _ _ _ 4 _ four-read all-four) (origin4 .args .answer .now) _
       (prefix-written answers (origin4 .args .m) (origin4 .args .answer .now) given (origin4 .pre .1 .1) gives)
