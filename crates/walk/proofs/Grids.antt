@@ -14,21 +14,21 @@ use Rattle.lists.specs.Lists.{some, lastFirst, product}
 use Rattle.lists.specs.Buffer.{written}
 use Rattle.lists.proofs.Buffer.{written-is}
 use Rattle.cell.specs.declared.Cell.{Cell}
-use Rattle.lookup.specs.Lookup.{never}
 use Rattle.lookup.specs.Places.{reach, firstInks, answerBy, answer, Promised, answerIn, Settled}
-use Rattle.lookup.specs.Idle.{reads, weightsOf}
+use Rattle.lookup.specs.Idle.{reads, weightsOf, active}
 use Rattle.lookup.proofs.Grid.{inks-weights}
+use Rattle.lookup.proofs.Counts.{length-weights, reads-three}
 use Rattle.lookup.proofs.Part.{from-length}
 use Rattle.walk.specs.declared.Plan.{Plan}
 use Rattle.walk.specs.Blocks.{Gives}
 use Rattle.walk.specs.Steps.{stepCell, stepsAt, stepped, lows, Weighed, planFor, tetraOf, Near}
 use Rattle.walk.specs.Walk.{above}
-use Rattle.walk.specs.Kept.{keptAt, readsIn}
+use Rattle.walk.specs.Kept.{kept, keptAt, readsIn}
 use Rattle.walk.proofs.Above.{above-answer, reach-over}
 use Rattle.walk.proofs.Tetrahedron.{near, plan-answers}
 use Rattle.walk.proofs.Reading.{Proper, cells-proper, cells-reach, cells-done}
 use Rattle.walk.proofs.Stepping.{stepped-answer, stepped-reach, stepped-weights}
-use Rattle.walk.proofs.Kept.{Light, light-kept, reach-kept, kept-answer, kept-reads, three-first}
+use Rattle.walk.proofs.Kept.{Light, light-kept, reach-kept, at-start-array, at-start-stepped, kept-answer, kept-reads, three-first, fourth-on}
 
 -- ---- the weights in an array
 
@@ -117,7 +117,7 @@ module _ (filling sizes : List ℕ) (xs : List Float) (m : ℕ) (laid : Promised
       answers : (o : ℕ) → answer from (stepsAt step′ w′ 0 r) o ≡ answerBy skip table cs o
       answers o =
           ap (λ (l : List Cell). answer from l o) kept-are
-          ∙ kept-answer skip step w o (n - 3) from
+          ∙ kept-answer skip (stepsAt step w 0 3) refl o (stepsAt step w 3 (n - 3)) (at-start-array step w 3 (n - 3)) from
           ∙ ap (λ (l : List Cell). answerBy skip from l o) all-are
           ∙ part-answers skip o
 
@@ -158,15 +158,29 @@ module _ (filling sizes : List ℕ) (xs : List Float) (m : ℕ) (laid : Promised
         let over = ap reach (stepped-over hs (e ∷ d ∷ c ∷ [])) ∙ reach-over (stepped hs) (stepped (e ∷ d ∷ c ∷ [])) in
         omega (arith, far, over, part-reach filling sizes xs m laid table enough n is (hs ++ (e ∷ d ∷ c ∷ [])) all at base)
 
-    pub cube-done : some isNan xs ≡ false → (old now : List Float) → now ≡ written (λ o. above (tetraOf p o) (stepped hs) part) m old
-        → Settled (answerIn never (lastFirst (length xs) sizes) m table xs) m xs old 0 now
-    cube-done none = cells-done filling sizes xs m laid table enough n (hs ++ (e ∷ d ∷ c ∷ [])) all never is none (λ o. above (tetraOf p o) (stepped hs) part) same
-      where
-        same : (o : ℕ) → o < m → above (tetraOf p o) (stepped hs) part ≡ answer table (hs ++ (e ∷ d ∷ c ∷ [])) o
-        same o h =
-            above-answer (stepCell (c .«x_n» - c .x) (c .w)) (stepCell (d .«x_n» - d .x) (d .w)) (stepCell (e .«x_n» - e .x) (e .w)) o (tetraOf p o)
-            (λ t. ap (λ (q : Plan). tetraOf q o t) plan
-            ∙ plan-answers (c .«x_n» - c .x) (d .«x_n» - d .x) (e .«x_n» - e .x) (c .w) (d .w) (e .w) (cube .1 .1 .0 .1) (cube .1 .0 .1) (cube .0 .1) t o)
-            (stepped hs) part
-            ∙ ap (λ (l : List Cell). answer part l o) (sym (stepped-over hs (e ∷ d ∷ c ∷ [])))
-            ∙ part-answers filling sizes xs m laid table enough n is (hs ++ (e ∷ d ∷ c ∷ [])) all at base never o
+    -- with the weights that are skipped
+    module _ (skip : Float → Bool) where
+      abbrev pub cubeAnswers : ℕ → Float
+      cubeAnswers o = above (tetraOf p o) (kept skip (stepped hs)) part
+
+      same : (o : ℕ) → o < m → cubeAnswers o ≡ answerBy skip table (hs ++ (e ∷ d ∷ c ∷ [])) o
+      same o h =
+          above-answer (stepCell (c .«x_n» - c .x) (c .w)) (stepCell (d .«x_n» - d .x) (d .w)) (stepCell (e .«x_n» - e .x) (e .w)) o (tetraOf p o)
+          (λ t. ap (λ (q : Plan). tetraOf q o t) plan
+          ∙ plan-answers (c .«x_n» - c .x) (d .«x_n» - d .x) (e .«x_n» - e .x) (c .w) (d .w) (e .w) (cube .1 .1 .0 .1) (cube .1 .0 .1) (cube .0 .1) t o)
+          (kept skip (stepped hs)) part
+          ∙ kept-answer skip (stepped (e ∷ d ∷ c ∷ [])) refl o (stepped hs) (at-start-stepped hs) part
+          ∙ ap (λ (l : List Cell). answerBy skip part l o) (sym (stepped-over hs (e ∷ d ∷ c ∷ [])))
+          ∙ part-answers filling sizes xs m laid table enough n is (hs ++ (e ∷ d ∷ c ∷ [])) all at base skip o
+
+      pub cube-done : some isNan xs ≡ false → (old now : List Float) → now ≡ written cubeAnswers m old
+          → Settled (answerIn skip (lastFirst (length xs) sizes) m table xs) m xs old 0 now
+      cube-done none = cells-done filling sizes xs m laid table enough n (hs ++ (e ∷ d ∷ c ∷ [])) all skip is none cubeAnswers same
+
+      pub cube-reads : 6 * 2 ^ active skip (weightsOf hs) ≡ readsIn skip (lastFirst (length xs) sizes) xs
+      cube-reads =
+          let ws = weightsOf (hs ++ (e ∷ d ∷ c ∷ [])) in
+          let some = length-weights (hs ++ (e ∷ d ∷ c ∷ [])) ∙ length-append hs (e ∷ d ∷ c ∷ []) in
+          ap (λ (l : List Float). 6 * 2 ^ active skip l) (sym (fourth-on hs (e ∷ d ∷ c ∷ []) refl))
+          ∙ sym (reads-three skip ws (omega (arith, some)))
+          ∙ ap (reads skip) (ap weightsOf all ∙ inks-weights filling sizes xs m laid table enough n is)

@@ -7,19 +7,21 @@ use native.Mathlib.Numerals.{add-one}
 use mathlib.Core.Path.{_≡_, refl, ap, ap₂, sym, subst, _∙_}
 use mathlib.Core.Bool.{Bool, true, false, cond}
 use mathlib.Core.List.{List, [], _∷_, _++_}
+use lib.Dec.{eqb}
 use lib.Ieee.{Float, nan}
 use lib.ListN.{length, getD, take, drop, set, length-set, length-append}
 use lib.Seq.{getD-set-same, getD-set-other}
 use Rattle.binary32.specs.Range.{Below}
 use Rattle.binary32.specs.Blend.{lerp}
 use Rattle.cell.specs.declared.Cell.{Cell}
-use Rattle.lookup.specs.Lookup.{Grid, lookupWith, lookup, never}
+use Rattle.lookup.specs.Lookup.{Grid, part, lookupWith, lookup, never}
 use Rattle.lookup.specs.Places.{reach, within, answerBy, answer}
 use Rattle.lookup.specs.Idle.{reads, weightsOf, fourthOn, active}
 use Rattle.lookup.proofs.More.{lookup-more, lookup-few}
 use Rattle.lookup.proofs.Part.{drop-within}
 use Rattle.lookup.proofs.Counts.{length-weights, reads-three}
-use Rattle.walk.specs.Steps.{stepCell, stepsAt}
+use Rattle.walk.specs.Steps.{stepCell, stepsAt, stepped, fourth}
+use Rattle.walk.specs.Walk as walk
 use Rattle.walk.specs.Kept.{kept, keptAt}
 use Rattle.walk.proofs.Above.{reach-over}
 use Rattle.walk.proofs.Steps.{split, length-steps}
@@ -32,6 +34,29 @@ Light (c ∷ cs) = Below 1 (c .w) × Light cs
 -- the first three of n inks come last in the list
 pub three-first : (step : List ℕ) (w : List Float) (n : ℕ) → 3 ≤ n → stepsAt step w 0 n ≡ stepsAt step w 3 (n - 3) ++ stepsAt step w 0 3
 three-first step w n some = let e : n ≡ n - 3 + 3 = omega arith in ap (stepsAt step w 0) e ∙ split step w 0 3 (n - 3)
+
+-- each lower node is where the part starts
+abbrev pub AtStart : List Cell → Type 0
+AtStart [] = Unit {0}
+AtStart (c ∷ cs) = (c .x ≡ 0) × AtStart cs
+
+pub at-start-array : (step : List ℕ) (w : List Float) (first k : ℕ) → AtStart (stepsAt step w first k)
+at-start-array step w first zero = tt
+at-start-array step w first (suc k) = (refl, at-start-array step w first k)
+
+pub at-start-stepped : (cs : List Cell) → AtStart (stepped cs)
+at-start-stepped [] = tt
+at-start-stepped (c ∷ cs) = (refl, at-start-stepped cs)
+
+-- the weights from the fourth ink on are those of the inks above three
+weights-over : (hs cs : List Cell) → take (length hs) (weightsOf (hs ++ cs)) ≡ weightsOf hs
+weights-over [] cs = refl
+weights-over (h ∷ hs) cs = ap (λ (ws : List Float). h .w ∷ ws) (weights-over hs cs)
+
+pub fourth-on : (hs cs : List Cell) → length cs ≡ 3 → fourthOn (weightsOf (hs ++ cs)) ≡ weightsOf hs
+fourth-on hs cs three =
+    let back : length (weightsOf (hs ++ cs)) - 3 ≡ length hs = omega (arith, length-weights (hs ++ cs), length-append hs cs, three) in
+    ap (λ (k : ℕ). take k (weightsOf (hs ++ cs))) back ∙ weights-over hs cs
 
 module _ (skip : Float → Bool) where
   -- ---- what is left out changes neither weights nor reach for the worse
@@ -55,43 +80,37 @@ module _ (skip : Float → Bool) where
 
   -- ---- the answers
 
-  module _ (step : List ℕ) (w : List Float) (o : ℕ) where
-    abbrev first : List Cell
-    first = stepsAt step w 0 3
-
-    abbrev further : ℕ → List Cell
-    further k = stepsAt step w 3 k
-
-    -- an ink above three or more, all by their steps: its lower node is where the part starts
-    above : (other : Float → Bool) (d : ℕ) (t : Float) (cs : List Cell) (table : List Float) → 3 ≤ length cs
-        → answerBy other table (stepCell d t ∷ cs) o ≡ cond (other t) (answerBy other table cs o) (lerp (answerBy other table cs o) (answerBy other (drop d table) cs o) t)
-    above other d t cs table more =
-        lookup-more other (within table o) (stepCell d t) cs more
-        ∙ ap₂ (λ (f g : Grid). cond (other t) (lookupWith other f cs) (lerp (lookupWith other f cs) (lookupWith other g cs) t))
-        (sym (drop-within table 0 o)) (sym (drop-within table d o))
+  module _ (first : List Cell) (three : length first ≡ 3) (o : ℕ) where
+    -- an ink above three or more: its lower node is where the part starts
+    above : (other : Float → Bool) (h : Cell) (cs : List Cell) (table : List Float) → h .x ≡ 0 → 3 ≤ length cs
+        → answerBy other table (h ∷ cs) o
+        ≡ cond (other (h .w)) (answerBy other table cs o) (lerp (answerBy other table cs o) (answerBy other (drop (h .«x_n») table) cs o) (h .w))
+    above other h cs table starts more =
+        lookup-more other (within table o) h cs more
+        ∙ ap₂ (λ (f g : Grid). cond (other (h .w)) (lookupWith other f cs) (lerp (lookupWith other f cs) (lookupWith other g cs) (h .w)))
+        (ap (part (within table o)) starts ∙ sym (drop-within table 0 o)) (sym (drop-within table (h .«x_n») o))
 
     three-or-more : (hs : List Cell) → 3 ≤ length (hs ++ first)
-    three-or-more hs = omega (arith, length-append hs first)
+    three-or-more hs = omega (arith, length-append hs first, three)
 
     -- one ink more: left out, or kept
-    kept-step : (d : ℕ) (t : Float) (k : ℕ) (table : List Float) (b : Bool) → skip t ≡ b
-        → answer table (kept skip (further k) ++ first) o ≡ answerBy skip table (further k ++ first) o
-        → answer (drop d table) (kept skip (further k) ++ first) o ≡ answerBy skip (drop d table) (further k ++ first) o
-        → answer table (cond b (kept skip (further k)) (stepCell d t ∷ kept skip (further k)) ++ first) o
-        ≡ cond b (answerBy skip table (further k ++ first) o) (lerp (answerBy skip table (further k ++ first) o) (answerBy skip (drop d table) (further k ++ first) o) t)
-    kept-step d t k table true e lower upper = lower
-    kept-step d t k table false e lower upper =
-        above never d t (kept skip (further k) ++ first) table (three-or-more (kept skip (further k)))
-        ∙ ap₂ (λ (x y : Float). lerp x y t) lower upper
+    kept-step : (h : Cell) (hs : List Cell) (table : List Float) (b : Bool) → h .x ≡ 0
+        → answer table (kept skip hs ++ first) o ≡ answerBy skip table (hs ++ first) o
+        → answer (drop (h .«x_n») table) (kept skip hs ++ first) o ≡ answerBy skip (drop (h .«x_n») table) (hs ++ first) o
+        → answer table (cond b (kept skip hs) (h ∷ kept skip hs) ++ first) o
+        ≡ cond b (answerBy skip table (hs ++ first) o) (lerp (answerBy skip table (hs ++ first) o) (answerBy skip (drop (h .«x_n») table) (hs ++ first) o) (h .w))
+    kept-step h hs table true starts lower upper = lower
+    kept-step h hs table false starts lower upper =
+        above never h (kept skip hs ++ first) table starts (three-or-more (kept skip hs))
+        ∙ ap₂ (λ (x y : Float). lerp x y (h .w)) lower upper
 
     -- the law
-    pub kept-answer : (k : ℕ) (table : List Float) → answer table (kept skip (further k) ++ first) o ≡ answerBy skip table (further k ++ first) o
-    kept-answer zero table = sym (lookup-few skip (within table o) first (omega arith))
-    kept-answer (suc k) table =
-        let d = getD step (3 + k) 0 in
-        let t = getD w (3 + k) nan in
-        kept-step d t k table (skip t) refl (kept-answer k table) (kept-answer k (drop d table))
-        ∙ sym (above skip d t (further k ++ first) table (three-or-more (further k)))
+    pub kept-answer : (hs : List Cell) → AtStart hs → (table : List Float)
+        → answer table (kept skip hs ++ first) o ≡ answerBy skip table (hs ++ first) o
+    kept-answer [] start table = sym (lookup-few skip (within table o) first (omega (arith, three)))
+    kept-answer (h ∷ hs) start table =
+        kept-step h hs table (skip (h .w)) (start .0) (kept-answer hs (start .1) table) (kept-answer hs (start .1) (drop (h .«x_n») table))
+        ∙ sym (above skip h (hs ++ first) table (start .0) (three-or-more hs))
 
   -- ---- the reads
 
@@ -103,21 +122,11 @@ module _ (skip : Float → Bool) where
   kept-count [] = refl
   kept-count (h ∷ hs) = count-step (active skip (weightsOf hs)) h (kept skip hs) (skip (h .w)) (kept-count hs)
 
-  weights-over : (hs cs : List Cell) → take (length hs) (weightsOf (hs ++ cs)) ≡ weightsOf hs
-  weights-over [] cs = refl
-  weights-over (h ∷ hs) cs = ap (λ (ws : List Float). h .w ∷ ws) (weights-over hs cs)
-
   -- each ink that is kept doubles them
   module _ (step : List ℕ) (w : List Float) (n : ℕ) (some : 3 ≤ n) (step′ : List ℕ) (w′ : List Float) (r : ℕ)
       (are : stepsAt step′ w′ 0 r ≡ keptAt skip step w n) where
     abbrev others : List Cell
     others = stepsAt step w 3 (n - 3)
-
-    fourth : fourthOn (weightsOf (stepsAt step w 0 n)) ≡ weightsOf others
-    fourth =
-        let count = length-weights (stepsAt step w 0 n) ∙ length-steps step w 0 n in
-        let back : length (weightsOf (stepsAt step w 0 n)) - 3 ≡ length others = omega (arith, count, length-steps step w 3 (n - 3)) in
-        ap₂ (λ (k : ℕ) (l : List Cell). take k (weightsOf l)) back (three-first step w n some) ∙ weights-over others (stepsAt step w 0 3)
 
     active-are : r - 3 ≡ active skip (weightsOf others)
     active-are =
@@ -127,7 +136,8 @@ module _ (skip : Float → Bool) where
     pub kept-reads : reads skip (weightsOf (stepsAt step w 0 n)) ≡ 6 * 2 ^ (r - 3)
     kept-reads =
         reads-three skip (weightsOf (stepsAt step w 0 n)) (omega (arith, length-weights (stepsAt step w 0 n), length-steps step w 0 n))
-        ∙ ap (λ (ws : List Float). 6 * 2 ^ active skip ws) fourth
+        ∙ ap (λ (l : List Cell). 6 * 2 ^ active skip (fourthOn (weightsOf l))) (three-first step w n some)
+        ∙ ap (λ (ws : List Float). 6 * 2 ^ active skip ws) (fourth-on others (stepsAt step w 0 3) refl)
         ∙ ap (λ (k : ℕ). 6 * 2 ^ k) (sym active-are)
 
 -- ---- the loop
@@ -218,3 +228,10 @@ kept-all (h ∷ hs) = ap (λ (cs : List Cell). h ∷ cs) (kept-all hs)
 
 pub never-kept : (step : List ℕ) (w : List Float) (n : ℕ) → 3 ≤ n → stepsAt step w 0 n ≡ keptAt never step w n
 never-kept step w n some = three-first step w n some ∙ ap (λ (cs : List Cell). cs ++ stepsAt step w 0 3) (sym (kept-all (stepsAt step w 3 (n - 3))))
+
+-- ---- ink 4 alone above three
+
+pub fourth-above : (b : Bool) (d : ℕ) (t : Float) (three : List Float → Float) (part : List Float)
+    → fourth (eqb (cond b 0 1) 0) (three part) (three (drop d part)) t ≡ walk.above three (cond b [] (stepCell d t ∷ [])) part
+fourth-above true d t three part = refl
+fourth-above false d t three part = refl

@@ -6,7 +6,7 @@ use mathlib.Core.Bool.{Bool, true, false, not, cond}
 use mathlib.Core.List.{List, [], _∷_}
 use lib.Ieee.{Float, nan, isNan, le}
 use lib.ListN.{length, getD}
-use Rattle.binary32.specs.Blend.{terms, rise}
+use Rattle.binary32.specs.Blend.{lerp, terms, rise}
 use Rattle.binary32.specs.Range.{Below}
 use Rattle.lists.specs.Lists.{some}
 use Rattle.cell.specs.declared.Cell.{Cell}
@@ -83,6 +83,10 @@ tetraOf p o t =
     (rise (at t (p .q2 + o)) (at t (p .p2 + o)))
     (rise (at t (p .q3 + o)) (at t (p .p3 + o)))
     (p .rx) (p .ry) (p .rz)
+
+-- ink 4 of weight t above the answers of three at its nodes, or the lower of them alone
+abbrev pub fourth : Bool → Float → Float → Float → Float
+fourth alone lower upper t = cond alone lower (lerp lower upper t)
 
 -- no entry of a plan stands farther than `far`
 pub record Near (p : Plan) : Type 0 where

@@ -8,7 +8,6 @@ ghost use lib.Ieee.{nan, isNan};
 ghost use lib.ListN.{length, getD};
 ghost use Rattle.lists.specs.Lists.{some};
 ghost use Rattle.cell.specs.Rule.{foundOf};
-ghost use Rattle.lookup.specs.Lookup.{idle};
 ghost use Rattle.lookup.specs.Places.{placedInk, reach, Narrow};
 ghost use Rattle.walk.specs.Steps.{allInks, stepsAt, stepped, lows, lowestOf};
 ghost use Rattle.walk.specs.Kept.{skipOf, keptAt};
@@ -55,10 +54,13 @@ pub(crate) fn cells(
     Lowest::At(at)
 }
 
-// How many places an ink of this weight takes.
-fn places(w: f32) -> usize
-    ensures { λ r. ⌜ r ≡ cond (idle w) 0 1 ⌝ }
+// How many places an ink of this weight takes: none where it is skipped.
+pub(crate) fn places(w: f32, skipping: bool) -> usize
+    ensures { λ r. ⌜ r ≡ cond (skipOf skipping w) 0 1 ⌝ }
 {
+    if !skipping {
+        return 1;
+    }
     if w == 0.0 { 0 } else { 1 }
 }
 
@@ -79,7 +81,7 @@ pub(crate) fn keep(step: &mut [usize; 16], w: &mut [f32; 16], n: usize, skipping
         let t = w[3 + i];
         step[at] = step[3 + i];
         w[at] = t;
-        at += places(t);
+        at += places(t, true);
         i += 1;
     }
     at

@@ -1,7 +1,6 @@
 // What a call answers: its number, with the count of its reads.
 use crate::Counted;
 ghost use mathlib.Core.Path.{_≡_};
-ghost use mathlib.Core.Bool.{cond};
 ghost use Prim.Native.Nat.{_-_, _*_, _^_, _≤_};
 ghost use Rattle.walk.specs.Kept.{Counts};
 
@@ -21,11 +20,4 @@ pub(crate) fn reads_of(inks: usize) -> u32
     ensures { λ r. ⌜ r ≡ 6 * 2 ^ (inks - 3) ⌝ }
 {
     6u32 << (inks - 3)
-}
-
-// The code for few inks skips none: it is for up to three where skipping is asked for, else for up to four.
-pub(crate) fn few_inks(skipping: bool) -> usize
-    ensures { λ r. ⌜ r ≡ cond skipping 3 4 ⌝ }
-{
-    if skipping { 3 } else { 4 }
 }

@@ -1,6 +1,8 @@
 // The answers of one ink to four: in one block of four outputs where the count and the table allow it, else output by output.
+use crate::Counted;
 use crate::Plan;
 use crate::cells;
+use crate::count;
 use crate::lanes;
 use crate::tetra;
 use cell::Cell;
@@ -9,12 +11,12 @@ ghost use mathlib.Core.Path.{_≡_};
 ghost use mathlib.Core.List.{[], _∷_};
 ghost use Prim.Native.Nat.{_+_, _*_, _≤_, _<_};
 ghost use lib.ListN.{length, drop};
-ghost use Rattle.binary32.specs.Blend.{lerp};
 ghost use Rattle.lists.specs.Lists.{lastFirst, product};
 ghost use Rattle.lists.specs.Buffer.{written};
-ghost use Rattle.lookup.specs.Places.{reach, answer, Promised, SettledIn};
+ghost use Rattle.lookup.specs.Places.{reach, answer, Promised, SettledIn, SettledWith};
 ghost use Rattle.walk.specs.Blocks.{Gives};
-ghost use Rattle.walk.specs.Steps.{tetraOf, Near};
+ghost use Rattle.walk.specs.Steps.{tetraOf, fourth, Near};
+ghost use Rattle.walk.specs.Kept.{skipOf, readsIn, Counts};
 
 // One ink, with the nodes of its cell as distances in entries: output by output.
 fn one_each(part: &[f32], c: Cell, m: usize, out: &mut [f32])
@@ -108,13 +110,16 @@ fn three(t: &[f32], p: Plan, m: usize, out: &mut [f32])
     lanes::give(tetra::tetra4(t, p), 0, m, out);
 }
 
-// Four inks: along ink 4, whose step is h, between the answers of three.
-fn four_each(t: &[f32], p: Plan, h: usize, w: f32, m: usize, out: &mut [f32])
+// Four inks: along ink 4, whose step is h, between the answers of three, or the lower of them alone.
+fn four_each(t: &[f32], p: Plan, h: usize, w: f32, alone: bool, m: usize, out: &mut [f32])
     requires { ⌜ Near p × (p .far + h + m ≤ length (now t)) ⌝ }
     requires room { ⌜ m ≤ length (now out) ⌝ }
     ensures { λ _. ⌜ now (out .exit)
-        ≡ written (λ o. lerp (tetraOf p o (now (t .entry))) (tetraOf p o (drop h (now (t .entry)))) w) m (now (out .entry)) ⌝ }
+        ≡ written (λ o. fourth alone (tetraOf p o (now (t .entry))) (tetraOf p o (drop h (now (t .entry)))) w) m (now (out .entry)) ⌝ }
 {
+    if alone {
+        return three_each(t, p, m, out);
+    }
     let upper = &t[h..];
     let mut o = 0;
     while o < m {
@@ -123,16 +128,20 @@ fn four_each(t: &[f32], p: Plan, h: usize, w: f32, m: usize, out: &mut [f32])
     }
 }
 
-fn four(t: &[f32], p: Plan, h: usize, w: f32, m: usize, out: &mut [f32])
+// In one block where there is room. `alone`: ink 4 is skipped, and the answer of three is taken as it stands.
+fn four(t: &[f32], p: Plan, h: usize, w: f32, alone: bool, m: usize, out: &mut [f32])
     requires { ⌜ Near p × (p .far + h + m ≤ length (now t)) ⌝ }
     requires room { ⌜ m ≤ length (now out) ⌝ }
-    ensures { λ _. ⌜ Gives (λ o. lerp (tetraOf p o (now (t .entry))) (tetraOf p o (drop h (now (t .entry)))) w)
+    ensures { λ _. ⌜ Gives (λ o. fourth alone (tetraOf p o (now (t .entry))) (tetraOf p o (drop h (now (t .entry)))) w)
         m (now (out .entry)) (now (out .exit)) ⌝ }
 {
     if !lanes::one_block(m, t.len() - h - p.far) {
-        return four_each(t, p, h, w, m, out);
+        return four_each(t, p, h, w, alone, m, out);
     }
     let below = tetra::tetra4(t, p);
+    if alone {
+        return lanes::give(below, 0, m, out);
+    }
     let above = tetra::tetra4(&t[h..], p);
     lanes::give(lanes::lerp4(below, above, w), 0, m, out);
 }
@@ -167,7 +176,7 @@ pub(crate) fn one_or_two(
     0
 }
 
-// Three inks or four, or 16 for a NaN input.
+// Three inks or four, with the reads, or 16 for a NaN input.
 pub(crate) fn three_or_four(
     filling: &[u32; 16],
     sizes: &[u8; 16],
@@ -175,34 +184,46 @@ pub(crate) fn three_or_four(
     table: &[f32],
     inputs: &[f32],
     answer: &mut [f32],
-) -> u32
+    skipping: bool,
+) -> Counted
     requires { ⌜ Promised (now filling) (now sizes) (length (now inputs)) m × (3 ≤ length (now inputs)) × (length (now inputs) ≤ 4) ⌝ }
     requires { ⌜ product (lastFirst (length (now inputs)) (now sizes)) * m ≤ length (now table) ⌝ }
     requires room { ⌜ m ≤ length (now answer) ⌝ }
-    ensures { λ r. ⌜ SettledIn (now (sizes .entry)) m (now (table .entry)) (now (inputs .entry)) (now (answer .entry)) r (now (answer .exit)) ⌝ }
+    ensures { λ r. ⌜ SettledWith (skipOf skipping) (now (sizes .entry)) m (now (table .entry)) (now (inputs .entry)) (now (answer .entry)) (r .refusal)
+        (now (answer .exit)) ⌝ }
+    ensures reads { λ r. ⌜ Counts (readsIn (skipOf skipping) (lastFirst (length (now (inputs .entry))) (now (sizes .entry))) (now (inputs .entry))) r ⌝ }
 {
     let first = cells::ink(filling, sizes, inputs, 0);
     let Found::At(c) = first else {
-        return 16;
+        return count::tally(16, 0);
     };
     let second = cells::ink(filling, sizes, inputs, 1);
     let Found::At(d) = second else {
-        return 16;
+        return count::tally(16, 0);
     };
     let third = cells::ink(filling, sizes, inputs, 2);
     let Found::At(e) = third else {
-        return 16;
+        return count::tally(16, 0);
     };
     let p = tetra::plan_of(c.x_n - c.x, d.x_n - d.x, e.x_n - e.x, c.w, d.w, e.w);
     let at = c.x + d.x + e.x;
     if inputs.len() == 3 {
         three(&table[at..], p, m, &mut answer[..m]);
-        return 0;
+        return count::tally(0, 6);
     }
     let fourth = cells::ink(filling, sizes, inputs, 3);
     let Found::At(h) = fourth else {
-        return 16;
+        return count::tally(16, 0);
     };
-    four(&table[at + h.x..], p, h.x_n - h.x, h.w, m, &mut answer[..m]);
-    0
+    let places = cells::places(h.w, skipping);
+    four(
+        &table[at + h.x..],
+        p,
+        h.x_n - h.x,
+        h.w,
+        places == 0,
+        m,
+        &mut answer[..m],
+    );
+    count::tally(0, count::reads_of(3 + places))
 }

@@ -77,9 +77,8 @@ fn write(
         let refusal = few::one_or_two(filling, sizes, m, table, inputs, answer);
         return count::tally(refusal, 2 * n as u32);
     }
-    if n <= count::few_inks(skipping) {
-        let refusal = few::three_or_four(filling, sizes, m, table, inputs, answer);
-        return count::tally(refusal, count::reads_of(n));
+    if n <= 4 {
+        return few::three_or_four(filling, sizes, m, table, inputs, answer, skipping);
     }
     many::many(filling, sizes, m, table, inputs, answer, skipping)
 }
