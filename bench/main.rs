@@ -3,6 +3,9 @@
 //!
 //! Then the time of a lookup with a size for each ink, which the Rust text has not: its bits are held to the definition's (tests/oracle).
 //!
+//! Then that of a lookup with most inks at 0, plainly and with skipping (E6), beside the Rust text's: first all three must give equal
+//! answers at every point. Two rows have no ink at 0, where skipping saves nothing.
+//!
 //! Then the time of reading a CLUT element, beside a plain Rust loop: the crate's own reading rounds twice. The same of values without a
 //! header, and then that of cutting a slab, which the crate does not, beside a plain Rust loop too.
 //!
@@ -27,6 +30,9 @@ const GRIDS: [(usize, u8); 15] =
 const FEW_TOO: [(usize, u8); 2] = [(3, 33), (4, 17)];
 /// A size for each ink, of tables as large.
 const OWN_SIZES: [&[u8]; 3] = [&[17, 17, 9, 17], &[9, 9, 9, 9, 5, 3], &[3, 3, 3, 3, 2, 2, 2, 2, 2, 2, 2, 2]];
+/// Inks, lines and which inks are active, the first one and the one after the last; the others are 0. Then grids whose inks are all active.
+const ACTIVE: [(usize, u8, [usize; 2]); 6] =
+    [(12, 2, [0, 4]), (12, 2, [8, 12]), (15, 2, [0, 4]), (15, 2, [11, 15]), (4, 17, [0, 4]), (8, 4, [0, 8])];
 /// How many values without a header: those of a table of 17 lines, four inks and three outputs; more than a cache holds; and few, where a
 /// call's fixed cost shows.
 const VALUES: [usize; 3] = [250_563, 4_194_304, 64];
@@ -49,13 +55,8 @@ fn main() {
             println!("{n:>3} {g:>4} {m:>3} {kb:>10} {used:>7} {rust:>12.1} {library:>12.1} {:>14.2}", library / rust);
         }
     }
-    println!("ns per lookup with a size for each ink, m 3; the Rust text has no such lookup");
-    println!("{:>10} {:>12}  sizes", "table KB", "library");
-    for sizes in OWN_SIZES {
-        let table: Vec<f32> = (0..sizes.iter().fold(3, |total, &size| total * size as usize)).map(|_| rng.unit()).collect();
-        let inputs: Vec<f32> = (0..POINTS * sizes.len()).map(|_| rng.unit()).collect();
-        println!("{:>10} {:>12.1}  {sizes:?}", table.len() * 4 / 1024, alone(sizes, 3, &table, &inputs));
-    }
+    own_sizes(rng);
+    skipping(&mut values::Rng(6));
     println!("ns per entry of a CLUT element read, g 17, n 4, m 3");
     println!("{:>9} {:>12} {:>12} {:>14}", "precision", "Rust loop", "library", "library/Rust");
     for precision in [1, 2] {
@@ -189,6 +190,66 @@ fn alone(sizes: &[u8], m: usize, table: &[f32], inputs: &[f32]) -> f64 {
     let once = time(n, inputs, 1, &library);
     let passes = (1e7 / (once * POINTS as f64)).clamp(1.0, 1e4) as usize;
     (0..ROUNDS).map(|_| time(n, inputs, passes, &library)).fold(f64::MAX, f64::min)
+}
+
+/// The rows of lookups with a size for each ink.
+fn own_sizes(rng: &mut values::Rng) {
+    println!("ns per lookup with a size for each ink, m 3; the Rust text has no such lookup");
+    println!("{:>10} {:>12}  sizes", "table KB", "library");
+    for sizes in OWN_SIZES {
+        let table: Vec<f32> = (0..sizes.iter().fold(3, |total, &size| total * size as usize)).map(|_| rng.unit()).collect();
+        let inputs: Vec<f32> = (0..POINTS * sizes.len()).map(|_| rng.unit()).collect();
+        println!("{:>10} {:>12.1}  {sizes:?}", table.len() * 4 / 1024, alone(sizes, 3, &table, &inputs));
+    }
+}
+
+/// The rows of lookups with skipping.
+fn skipping(rng: &mut values::Rng) {
+    println!("ns per lookup with some inks at 0, m 3, plainly and with skipping");
+    let [rust, plain, skipping] = ["Rust text", "library", "skipping"];
+    println!(
+        "{:>3} {:>4} {:>7} {:>7} {rust:>12} {plain:>12} {skipping:>12} {:>14} {:>17}",
+        "n", "g", "active", "points", "skipping/Rust", "skipping/library"
+    );
+    for (n, g, [first, end]) in ACTIVE {
+        let table: Vec<f32> = (0..(g as usize).pow(n as u32) * 3).map(|_| rng.unit()).collect();
+        let inputs: Vec<f32> = (0..POINTS * n).map(|i| if (first..end).contains(&(i % n)) { rng.unit() } else { 0.0 }).collect();
+        let (points, [rust, library, skipping]) = three(g, n, &table, &inputs);
+        let (active, of_rust, of_library) = (format!("{}-{end}", first + 1), skipping / rust, skipping / library);
+        println!("{n:>3} {g:>4} {active:>7} {points:>7} {rust:>12.1} {library:>12.1} {skipping:>12.1} {of_rust:>14.4} {of_library:>17.4}");
+    }
+}
+
+/// How many points were timed, and the best time of each, in ns for one lookup with m 3: the Rust text's, the library's plain one, and the
+/// library's with skipping.
+fn three(g: u8, n: usize, table: &[f32], inputs: &[f32]) -> (usize, [f64; 3]) {
+    let (lut, sizes) = (oracle::Lut::new(g, n, 3), [g; 16]);
+    let rust = |inputs: &[f32], answer: &mut [f32]| lut.lookup(black_box(table), inputs, answer);
+    let plain = |inputs: &[f32], answer: &mut [f32]| {
+        black_box(library::lookup(black_box(&sizes), n, 3, table, inputs, answer));
+    };
+    let skipping = |inputs: &[f32], answer: &mut [f32]| {
+        let mut reads = 0;
+        black_box(library::lookup_skipping(black_box(&sizes), n, 3, table, inputs, answer, black_box(&mut reads)));
+    };
+    for point in inputs.chunks_exact(n).filter(|point| !oracle::excepted(g, point)) {
+        let [mut a, mut b, mut c] = [[0.0f32; 15]; 3];
+        rust(point, &mut a);
+        plain(point, &mut b);
+        skipping(point, &mut c);
+        assert!(a == b && b == c, "n {n}, g {g}: {a:?}, {b:?} and with skipping {c:?} at {point:?}");
+    }
+    // As many points as take the Rust text some 10 ms, and of each lookup as many passes over them as take it so long.
+    let inputs = &inputs[..n * (1e7 / time(n, &inputs[..16 * n], 1, &rust)).clamp(16.0, POINTS as f64) as usize];
+    let passes = [time(n, inputs, 1, &rust), time(n, inputs, 1, &plain), time(n, inputs, 1, &skipping)];
+    let passes = passes.map(|once| (1e7 * n as f64 / (once * inputs.len() as f64)).clamp(1.0, 1e4) as usize);
+    let mut best = [f64::MAX; 3];
+    for _ in 0..ROUNDS {
+        best[0] = best[0].min(time(n, inputs, passes[0], &rust));
+        best[1] = best[1].min(time(n, inputs, passes[1], &plain));
+        best[2] = best[2].min(time(n, inputs, passes[2], &skipping));
+    }
+    (inputs.len() / n, best)
 }
 
 fn time(n: usize, inputs: &[f32], passes: usize, lookup: &impl Fn(&[f32], &mut [f32])) -> f64 {

@@ -1,5 +1,6 @@
 //! What a compared call is, how one that differs is made small, and how many of each kind were compared.
 
+use crate::counted::{Tally, Told};
 use crate::engines;
 use std::time::{Duration, Instant};
 
@@ -11,9 +12,10 @@ pub enum Sort {
     Node,
     Element,
     Slab,
+    Skipping,
 }
 
-const SORTS: [&str; 5] = ["layouts", "lookups", "nodes", "elements", "slabs"];
+const SORTS: [&str; 6] = ["layouts", "lookups", "nodes", "elements", "slabs", "lookups with skipping"];
 
 /// One call that the library and the oracle both answer.
 pub trait Case: Sized {
@@ -29,6 +31,10 @@ pub trait Case: Sized {
     }
     /// The sort of a call whose sizes in use are unequal (E5); none of every other call.
     fn unequal(&self) -> Option<Sort> {
+        None
+    }
+    /// What is told of an accepted lookup with skipping (E6); none of every other call.
+    fn told(&self) -> Option<Told> {
         None
     }
     /// What differs, in words; nothing where both agree.
@@ -48,13 +54,16 @@ pub struct Run {
     /// How many quiet and signalling NaNs were among the inputs of calls that were refused for them.
     nans: [u64; 2],
     /// Of each sort how many calls with unequal sizes are accepted, and how many refused.
-    unequal: [[u64; 2]; 5],
+    unequal: [[u64; 2]; 6],
+    /// The accepted lookups with skipping.
+    pub skipping: Tally,
     began: Instant,
 }
 
 impl Run {
     pub fn new() -> Run {
-        Run { counts: Vec::new(), numbers: [0; 17], excepted: [0; 2], nans: [0; 2], unequal: [[0; 2]; 5], began: Instant::now() }
+        let (counts, skipping, began) = (Vec::new(), Tally::default(), Instant::now());
+        Run { counts, numbers: [0; 17], excepted: [0; 2], nans: [0; 2], unequal: [[0; 2]; 6], skipping, began }
     }
 
     /// Opens a kind of calls; what is held from here on counts to it.
@@ -97,6 +106,9 @@ impl Run {
         if case.difference().is_some() {
             self.fail(case);
         }
+        if let Some(told) = case.told() {
+            self.skipping.add(told);
+        }
     }
 
     /// Counts accepted calls that were compared elsewhere and agree.
@@ -137,8 +149,9 @@ impl Run {
         println!("            {excepted} calls are excepted from demand 2 (E4) and held to the definition; in {parted} of them the Rust text answers otherwise");
         let [quiet, signalling] = self.nans;
         println!("            {} calls are refused for a NaN input (E8), with {quiet} quiet and {signalling} signalling ones", self.numbers[16]);
-        let [accepted, refused] = [0, 1].map(|k| (0..5).map(|sort| format!("{} {}", SORTS[sort], self.unequal[sort][k])).collect::<Vec<_>>().join(", "));
+        let [accepted, refused] = [0, 1].map(|k| (0..6).map(|sort| format!("{} {}", SORTS[sort], self.unequal[sort][k])).collect::<Vec<_>>().join(", "));
         println!("            with unequal sizes (E5), held to the definition over coordinates: {accepted}; and refused: {refused}");
+        self.skipping.print();
         println!("            both engines asked: {} lookups", engines::asked());
         println!("{:>10}  calls compared, none different", self.counts.iter().map(|c| c.1).sum::<u64>());
     }

@@ -6,6 +6,11 @@ use crate::lookups::Lookup;
 use crate::values::{fill_table, random_numbers, skipping, special_inputs, Rng, NANS};
 use oracle::expected;
 
+/// Ten inputs: both zeros, the smallest float, on and just under lines and between them, 1 and a NaN.
+pub const TEN: [u32; 10] = [
+    0x0000_0000, 0x8000_0000, 0x0000_0001, 0x3E80_0000, 0x3EFF_FFFF, 0x3F00_0000, 0x3F40_0000, 0x3F7F_FFFF, 0x3F80_0000, 0x7FC0_0000,
+];
+
 /// A table of shares of 0 to 1, and one of a random sort.
 pub fn tables(rng: &mut Rng, sizes: &[u8], m: usize) -> [Vec<f32>; 2] {
     let total = expected::total(sizes, m) as usize;
@@ -58,8 +63,7 @@ pub fn short(run: &mut Run, rng: &mut Rng, long: bool) {
         }
     }
     run.kind("three to five inks, g 2 and 3, every choice of ten inputs");
-    let ten = [0x0000_0000, 0x8000_0000, 0x0000_0001, 0x3E80_0000, 0x3EFF_FFFF, 0x3F00_0000, 0x3F40_0000, 0x3F7F_FFFF, 0x3F80_0000, 0x7FC0_0000];
-    let ten = ten.map(f32::from_bits);
+    let ten = TEN.map(f32::from_bits);
     for (g, n) in [(2, 3), (3, 3), (2, 4), (3, 4), (2, 5), (3, 5)] {
         for table in tables(rng, &equal(g, n), 1) {
             every(&vec![ten.to_vec(); n], |inputs| run.hold(Lookup::good(&equal(g, n), 1, &table, inputs)));

@@ -1,6 +1,7 @@
 //! The sizes of random calls: one size for all inks, or unequal ones.
 
 use crate::values::Rng;
+use oracle::definition::{on_line, product};
 use oracle::{expected::total, one_size};
 
 /// Whether the inks of a call have one size or unequal ones.
@@ -78,6 +79,27 @@ fn drawn(rng: &mut Rng, sort: usize, room: u128, left: usize) -> u8 {
     let share = largest(left, room);
     let most = rng.pick(&[share, 2 * share, 255]).min(255).min(room as usize);
     rng.within(1, most) as u8
+}
+
+/// Sizes for a set of idle inks: those of the set may have one line, the others at least two; some have more, as many as the bound leaves.
+pub fn sizes_for(rng: &mut Rng, n: usize, set: usize, bound: usize) -> Vec<u8> {
+    let mut sizes: Vec<u8> = (0..n).map(|ink| if set >> ink & 1 == 1 { 1 } else { 2 }).collect();
+    for _ in 0..rng.below(n + 1) {
+        let (ink, room) = (rng.below(n), bound / total(&sizes, 1) as usize);
+        let most = rng.pick(&[2, 3, 5, 255]).min(room * sizes[ink] as usize).min(255) as u8;
+        sizes[ink] = sizes[ink].max(most);
+    }
+    sizes
+}
+
+/// The numbers of the nodes that are to be visited: of an ink that stands on a line those of that line alone, of any other those of the
+/// lines on either side of it.
+pub fn visited(sizes: &[u8], inputs: &[f32]) -> Vec<usize> {
+    sizes.iter().zip(inputs).fold(vec![0], |nodes, (&size, &x)| {
+        let low = product(size, x) as usize;
+        let high = low + usize::from(!on_line(size, x));
+        nodes.into_iter().flat_map(|node| (low..=high).map(move |k| node * size as usize + k)).collect()
+    })
 }
 
 fn shuffle(rng: &mut Rng, sizes: &mut [u8]) {

@@ -4,7 +4,7 @@
 
 use crate::case::Run;
 use crate::grids::{equal, padded};
-use crate::lookups::Lookup;
+use crate::lookups::{hold, Hold, Lookup};
 use crate::values::{before, random_numbers, skipping, Rng};
 use oracle::{definition::product, expected, skips};
 use std::ffi::{c_char, c_void};
@@ -56,14 +56,20 @@ impl Drop for Zeros {
 }
 
 pub fn lookups(run: &mut Run, rng: &mut Rng, long: bool) {
-    run.kind("lookups in tables of up to 4,294,967,295 entries");
+    let kinds = ["lookups in tables of up to 4,294,967,295 entries", "lookups with unequal sizes in tables of up to 4,294,967,280 entries"];
+    all(run, rng, kinds, hold, long);
+}
+
+/// With equal sizes, and then with unequal ones, a kind each.
+pub fn all(run: &mut Run, rng: &mut Rng, [of_equal, of_unequal]: [&'static str; 2], hold: Hold, long: bool) {
+    run.kind(of_equal);
     // The largest accepted layouts for four to eight inks; five of 66 lines, the fewest with which p+1 skips a node just under 64.
     for (g, n, m) in [(255, 4, 1), (138, 4, 11), (84, 5, 1), (66, 5, 3), (40, 6, 1), (23, 7, 1), (15, 8, 1)] {
-        within(run, rng, &equal(g, n), m, long);
+        within(run, rng, &equal(g, n), m, hold, long);
     }
-    run.kind("lookups with unequal sizes in tables of up to 4,294,967,280 entries");
+    run.kind(of_unequal);
     for (sizes, m) in UNEQUAL {
-        within(run, rng, sizes, m, long);
+        within(run, rng, sizes, m, hold, long);
     }
 }
 
@@ -74,7 +80,7 @@ pub const UNEQUAL: [(&[u8], usize); 7] = [
 ];
 
 /// Lookups in one such table: at the last node, just under it, just under 64 and 128, and anywhere.
-fn within(run: &mut Run, rng: &mut Rng, sizes: &[u8], m: usize, long: bool) {
+fn within(run: &mut Run, rng: &mut Rng, sizes: &[u8], m: usize, hold: Hold, long: bool) {
     let n = sizes.len();
     assert_eq!(expected::layout(&padded(sizes), n, m), 0);
     let Some(mut zeros) = Zeros::new(expected::total(sizes, m) as usize) else {
@@ -92,7 +98,7 @@ fn within(run: &mut Run, rng: &mut Rng, sizes: &[u8], m: usize, long: bool) {
             _ => {}
         }
         around(rng, zeros.entries(), sizes, m, &inputs);
-        run.hold(Lookup::good(sizes, m, &*zeros.entries(), &inputs));
+        hold(run, Lookup::good(sizes, m, &*zeros.entries(), &inputs));
     }
 }
 

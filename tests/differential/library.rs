@@ -9,6 +9,10 @@ extern "C" {
         sizes: *const u8, n: usize, m: usize, table: *const f32, table_len: usize, inputs: *const f32, inputs_len: usize,
         answer: *mut f32, answer_len: usize,
     ) -> u32;
+    fn tenahvar_lookup_skipping(
+        sizes: *const u8, n: usize, m: usize, table: *const f32, table_len: usize, inputs: *const f32, inputs_len: usize,
+        answer: *mut f32, answer_len: usize, reads: *mut u32,
+    ) -> u32;
     fn tenahvar_node(
         sizes: *const u8, n: usize, m: usize, table: *const f32, table_len: usize, coordinates: *const usize,
         coordinates_len: usize, offset: *mut usize,
@@ -53,6 +57,17 @@ pub fn lookup(sizes: &[u8; 16], n: usize, m: usize, table: &[f32], inputs: &[f32
     unsafe {
         tenahvar_lookup(
             sizes.as_ptr(), n, m, table.as_ptr(), table.len(), inputs.as_ptr(), inputs.len(), answer.as_mut_ptr(), answer.len(),
+        )
+    }
+}
+
+#[inline]
+pub fn lookup_skipping(
+    sizes: &[u8; 16], n: usize, m: usize, table: &[f32], inputs: &[f32], answer: &mut [f32], reads: &mut u32,
+) -> u32 {
+    unsafe {
+        tenahvar_lookup_skipping(
+            sizes.as_ptr(), n, m, table.as_ptr(), table.len(), inputs.as_ptr(), inputs.len(), answer.as_mut_ptr(), answer.len(), reads,
         )
     }
 }

@@ -2,7 +2,7 @@
 
 use crate::case::Run;
 use crate::grids::{equal, padded};
-use crate::lookups::Lookup;
+use crate::lookups::{hold, Hold, Lookup};
 use crate::values::{fill_table, random_numbers, Rng, NANS};
 use oracle::expected;
 
@@ -36,19 +36,25 @@ fn changed_sizes(used: &[u8]) -> Vec<[u8; 16]> {
 }
 
 pub fn lookups(run: &mut Run, rng: &mut Rng) {
-    run.kind("lookups around every limit, every pair of them");
+    let kinds = ["lookups around every limit, every pair of them", "lookups with unequal sizes around every limit, every pair of them"];
+    all(run, rng, kinds, hold);
+}
+
+/// With equal sizes, and then with unequal ones, a kind each.
+pub fn all(run: &mut Run, rng: &mut Rng, [of_equal, of_unequal]: [&'static str; 2], hold: Hold) {
+    run.kind(of_equal);
     for (g, n, m) in [(1, 1, 1), (1, 15, 15), (2, 1, 1), (2, 2, 3), (3, 3, 4), (2, 4, 15), (3, 5, 1), (2, 8, 3), (2, 11, 1), (255, 1, 2)] {
-        around(run, rng, &equal(g, n), m);
+        around(run, rng, &equal(g, n), m, hold);
     }
-    run.kind("lookups with unequal sizes around every limit, every pair of them");
+    run.kind(of_unequal);
     let grids: [(&[u8], usize); 5] = [(&[2, 3], 1), (&[3, 2], 3), (&[4, 1, 2], 4), (&[2, 3, 1, 2, 3], 1), (&[1, 2, 1, 2, 1, 2, 1, 3], 2)];
     for (sizes, m) in grids {
-        around(run, rng, sizes, m);
+        around(run, rng, sizes, m, hold);
     }
 }
 
 /// Counts against everything, with the sizes as they are; then the sizes against everything.
-fn around(run: &mut Run, rng: &mut Rng, used: &[u8], m: usize) {
+fn around(run: &mut Run, rng: &mut Rng, used: &[u8], m: usize, hold: Hold) {
     let (n, total) = (used.len(), expected::total(used, m) as usize);
     let mut table = vec![0.0; total + 1];
     fill_table(rng, &mut table);
@@ -59,19 +65,19 @@ fn around(run: &mut Run, rng: &mut Rng, used: &[u8], m: usize) {
     let whole = (n, m, total);
     for &n_asked in &ns {
         for &m_asked in &ms {
-            lent(run, whole, padded(used), n_asked, m_asked, &table, &inputs);
+            lent(whole, padded(used), n_asked, m_asked, &table, &inputs, |call| hold(run, call));
         }
     }
     for sizes in changed_sizes(used) {
         for (n_asked, m_asked) in [(n, m), (n, 16), (16, m), (n, 0), (n + 1, m)] {
-            lent(run, whole, sizes, n_asked, m_asked, &table, &inputs);
+            lent(whole, sizes, n_asked, m_asked, &table, &inputs, |call| hold(run, call));
         }
     }
 }
 
 /// One layout with every choice of short, exact and long table, inputs and buffer; no NaN among the inputs, one at the first or the last of the
 /// inks, and one behind them.
-fn lent(run: &mut Run, whole: (usize, usize, usize), sizes: [u8; 16], n: usize, m: usize, table: &[f32], inputs: &[f32]) {
+fn lent(whole: (usize, usize, usize), sizes: [u8; 16], n: usize, m: usize, table: &[f32], inputs: &[f32], mut hold: impl FnMut(Lookup)) {
     let (inks, outputs, total) = whole;
     for table_len in [total - 1, total, total + 1, 0] {
         for inputs_len in [inks - 1, inks, inks + 1, 0, 17] {
@@ -79,7 +85,7 @@ fn lent(run: &mut Run, whole: (usize, usize, usize), sizes: [u8; 16], n: usize, 
                 for nan in [usize::MAX, 0, inks - 1, inks] {
                     let (table, mut inputs) = ((&table[..table_len]).into(), inputs[..inputs_len].to_vec());
                     inputs.iter_mut().skip(nan).take(1).for_each(|x| *x = f32::from_bits(NANS[(table_len + inputs_len + answer) % NANS.len()]));
-                    run.hold(Lookup { sizes, n, m, table, inputs, answer });
+                    hold(Lookup { sizes, n, m, table, inputs, answer });
                 }
             }
         }

@@ -7,7 +7,7 @@ use crate::values::{random_numbers, Rng};
 use oracle::expected;
 
 /// The input whose quotient is the line, and as many floats as `reach` below and above it.
-fn around(g: u8, line: u8, reach: u32) -> impl Iterator<Item = f32> {
+pub fn around(g: u8, line: u8, reach: u32) -> impl Iterator<Item = f32> {
     let near = (f32::from(line) / f32::from(g.max(2) - 1)).to_bits();
     (near.saturating_sub(reach)..=near + reach).map(f32::from_bits)
 }

@@ -1,10 +1,18 @@
 //! A lookup as a compared call.
 
-use crate::case::{are_unequal, compare, number, numbers, plainness, Case, Sort};
+use crate::case::{are_unequal, compare, number, numbers, plainness, Case, Run, Sort};
 use crate::engines::{self, Answer};
 use crate::grids::padded;
 use oracle::{expected, slab};
 use std::borrow::Cow;
+
+/// How the calls of a set are held: as plain lookups, or as lookups with skipping (counted.rs).
+pub type Hold = fn(&mut Run, Lookup);
+
+/// Holds the plain lookup.
+pub fn hold(run: &mut Run, call: Lookup) {
+    run.hold(call);
+}
 
 #[derive(Clone)]
 pub struct Lookup<'a> {

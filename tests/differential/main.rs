@@ -1,4 +1,4 @@
-//! The library against the oracle: the same calls to both, and every bit compared. Every lookup is asked of the
+//! The library against the oracle: the same calls to both, and every bit compared. Every plain lookup is asked of the
 //! first engine too, which must agree with the library's (engines.rs).
 //!
 //! Arguments: the number of random lookups with equal sizes, and as many with unequal ones (default 200,000), the seed (default 1), and `long` for larger sets.
@@ -6,6 +6,7 @@
 
 mod case;
 mod cluts;
+mod counted;
 mod cubes;
 mod down;
 mod elements;
@@ -17,6 +18,8 @@ mod huge;
 mod huge_cluts;
 mod huge_slabs;
 mod huge_units;
+mod idle;
+mod idle_tables;
 mod layouts;
 mod library;
 mod limits;
@@ -31,6 +34,7 @@ mod strides;
 mod unequal;
 mod units;
 mod values;
+mod visits;
 
 /// Says what will be compared, and what the oracle is not asked.
 fn announce(count: u64, seed: u64, long: bool) {
@@ -44,10 +48,12 @@ fn main() {
     let (count, seed) = (number(0, 200_000), number(1, 1));
     let long = words.get(2).is_some_and(|w| w == "long");
     announce(count, seed, long);
-    let (run, rng) = (&mut case::Run::new(), &mut values::Rng(seed));
+    // The lookups with skipping have random numbers of their own.
+    let (run, rng, own) = (&mut case::Run::new(), &mut values::Rng(seed), &mut values::Rng(seed ^ 6 << 32));
     skipped::condition();
     skipped::codes();
     skipped::definition(rng);
+    idle_tables::cut(own);
     exhaustive::checked(run);
     strides::rule(run);
     layouts::all(run, rng);
@@ -61,6 +67,7 @@ fn main() {
     nans::all(run, rng);
     unequal::lookups(run, rng, long);
     random::all(run, rng, count);
+    idle::all(run, own, count, long);
     cubes::cubes(run, rng, count / 4);
     elements::all(run, rng, long);
     huge::lookups(run, rng, long);

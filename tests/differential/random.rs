@@ -2,7 +2,7 @@
 
 use crate::case::Run;
 use crate::grids::{grid, laid, Sizes};
-use crate::lookups::Lookup;
+use crate::lookups::{hold, Hold, Lookup};
 use crate::values::{fill_table, random_inputs, random_nan, Rng};
 use oracle::expected;
 
@@ -33,13 +33,13 @@ fn lookups(run: &mut Run, rng: &mut Rng, count: u64, sizes: Sizes) {
 }
 
 /// Good calls with one to three of their parts damaged.
-fn damaged(run: &mut Run, rng: &mut Rng, count: u64, sizes: Sizes) {
+pub fn damaged(run: &mut Run, rng: &mut Rng, count: u64, sizes: Sizes, hold: Hold) {
     for _ in 0..count {
         let mut call = good(rng, sizes);
         for _ in 0..rng.within(1, 3) {
             damage(rng, &mut call);
         }
-        run.hold(call);
+        hold(run, call);
     }
 }
 
@@ -49,9 +49,9 @@ pub fn all(run: &mut Run, rng: &mut Rng, count: u64) {
     run.kind("random lookups with unequal sizes, two to fifteen inks");
     lookups(run, rng, count, Sizes::Unequal);
     run.kind("damaged copies of good calls");
-    damaged(run, rng, count / 2, Sizes::Equal);
+    damaged(run, rng, count / 2, Sizes::Equal, hold);
     run.kind("damaged copies of good calls with unequal sizes");
-    damaged(run, rng, count / 2, Sizes::Unequal);
+    damaged(run, rng, count / 2, Sizes::Unequal, hold);
 }
 
 fn damage(rng: &mut Rng, call: &mut Lookup) {

@@ -1,5 +1,5 @@
 #!/usr/bin/env bash
-# run.sh [--long] [RUST_TEXT]: the library against the oracle, every bit of every answer; every lookup asked of both engines.
+# run.sh [--long] [RUST_TEXT]: the library against the oracle, every bit of every answer; every plain lookup asked of both engines.
 #
 # Builds the archives of the library and of the first engine for this machine (tests/native-staticlib), the oracle from
 # the crate's Rust text (RUST_TEXT, ../shared/docs/src beside the repository unless told otherwise) and the comparing program, and runs it:

@@ -1,5 +1,7 @@
 //! Random numbers, the special values, and inputs with a wanted product.
 
+use oracle::definition::on_line;
+
 /// A small generator (splitmix64), the same on every machine.
 pub struct Rng(pub u64);
 
@@ -68,6 +70,9 @@ pub const ENTRIES: [u32; 16] = [
     0x7F7F_FFFF, 0xFF7F_FFFF, 0x7F80_0000, 0xFF80_0000, 0x7FC0_0000, 0x7F80_0001,
 ];
 
+/// Entries that show in any blend, whatever their weight: none that a lookup with skipping leaves out may be among those it reads.
+pub const STRANGE: [f32; 6] = [f32::NAN, f32::INFINITY, f32::NEG_INFINITY, f32::MAX, f32::MIN, f32::NAN];
+
 /// The inputs around p/(g−1) whose rounded product with g−1 is exactly p.
 pub fn with_products(g: u8, p: f32) -> impl Iterator<Item = f32> {
     let scale = f32::from(g - 1);
@@ -131,6 +136,30 @@ pub fn random_inputs(rng: &mut Rng, sizes: &[u8], inputs: &mut [f32]) {
 pub fn random_numbers(rng: &mut Rng, sizes: &[u8], inputs: &mut [f32]) {
     random_inputs(rng, sizes, inputs);
     inputs.iter_mut().for_each(|x| *x = numeric(*x));
+}
+
+/// An input with which an ink of this size is idle, or one with which it is not; with one line it always is. A line, its neighbours, a
+/// special value (both zeros, the smallest floats, what is clipped), or a share.
+pub fn idle_or_active(rng: &mut Rng, size: u8, idle: bool) -> f32 {
+    assert!(idle || size > 1, "an ink with one line is idle");
+    loop {
+        let line = rng.within(0, size as usize - 1) as f32 / f32::from(size.max(2) - 1);
+        let x = match rng.below(8) {
+            0 | 1 => line,
+            2 => after(line),
+            3 if line > 0.0 => before(line),
+            4 | 5 => numeric(f32::from_bits(rng.pick(&SPECIAL))),
+            _ => rng.unit(),
+        };
+        if on_line(size, x) == idle {
+            return x;
+        }
+    }
+}
+
+/// Inputs of which those of the set, a bit for each ink from the first on, are idle; an ink with one line is in any case.
+pub fn with_idle(rng: &mut Rng, sizes: &[u8], set: usize) -> Vec<f32> {
+    sizes.iter().enumerate().map(|(ink, &size)| idle_or_active(rng, size, size == 1 || set >> ink & 1 == 1)).collect()
 }
 
 /// A table of one of eight sorts.

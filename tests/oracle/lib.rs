@@ -3,7 +3,8 @@
 //! rounded once, in the order written, and nothing is fused.
 //!
 //! `rust_lookup`, `layout`, `weights`, `pyramidal`, `prismatic` and `trilinear` give the crate's answers for accepted calls. `lookup` gives
-//! what the library owes: the crate's answers, and where demand 2 leaves those out, or sizes are unequal, the answers of `definition`.
+//! what the library owes: the crate's answers, and where demand 2 leaves those out, or sizes are unequal, the answers of `definition`, which
+//! has the lookup with skipping (document 02, E6) too.
 //! The refusals are not the crate's: `expected` has them, in the words of document 01's table; `clut` has document 02's CLUT elements,
 //! `units` the values in them and `slab` its slabs.
 

@@ -61,7 +61,7 @@ impl Table {
         }
     }
 
-    fn text(&self) -> Vec<u32> {
+    pub fn text(&self) -> Vec<u32> {
         match self {
             Table::Words(words) => [words.len() as u32, 0].into_iter().chain(words.iter().map(|&w| plain(w))).collect(),
             Table::Shares(len, seed) => vec![*len as u32, 1, *seed],
@@ -99,7 +99,7 @@ impl Asked {
         Asked { sizes, n: n as u32, m: m as u32, place: NO_PLACE, value: 0 }
     }
 
-    fn record(&self) -> expected::Record {
+    pub fn record(&self) -> expected::Record {
         let mut record = expected::record(&self.sizes, self.n as usize, self.m as usize);
         if let Some(word) = record.get_mut(self.place as usize) {
             *word = if (48..64).contains(&self.place) { self.value & 0xFF } else { self.value() };
@@ -112,7 +112,7 @@ impl Asked {
         if (32..48).contains(&self.place) { plain(self.value) } else { self.value }
     }
 
-    fn words(&self) -> Vec<u32> {
+    pub fn words(&self) -> Vec<u32> {
         self.sizes.map(u32::from).into_iter().chain([self.n, self.m, self.place, self.value()]).collect()
     }
 }
@@ -122,18 +122,20 @@ impl Asked {
 pub struct List {
     pub stdin: String,
     pub stdout: String,
-    pub counts: [usize; 13],
+    pub counts: [usize; 14],
     pub entries: usize,
     /// How many lookups demand 2 excepts (E4), and in how many of them the crate's answers are others.
     pub excepted: [usize; 2],
-    /// How many lookups are refused for a NaN input (E8).
+    /// How many lookups, with skipping or without, are refused for a NaN input (E8).
     pub nans: usize,
+    /// How many accepted lookups with skipping (E6) there are, and in how many of them the plain lookup answers otherwise.
+    pub skipping: [usize; 2],
     /// How many cases of each kind have a record with unequal sizes.
-    pub unequal: [usize; 13],
+    pub unequal: [usize; 14],
 }
 
 impl List {
-    fn asks(&mut self, kind: u32, parts: &[&[u32]]) {
+    pub fn asks(&mut self, kind: u32, parts: &[&[u32]]) {
         self.counts[kind as usize] += 1;
         let words: Vec<String> = std::iter::once(&kind).chain(parts.iter().copied().flatten()).map(|w| format!("{w:x}")).collect();
         self.stdin.push_str(&words.join(" "));
@@ -141,45 +143,20 @@ impl List {
     }
 
     /// A line of the number in decimal and the words in hex.
-    fn answers(&mut self, number: Option<u32>, words: impl IntoIterator<Item = u32>) {
+    pub fn answers(&mut self, number: Option<u32>, words: impl IntoIterator<Item = u32>) {
         let number = number.map(|k| k.to_string());
         let words: Vec<String> = number.into_iter().chain(words.into_iter().map(|w| format!("{w:08X}"))).collect();
         writeln!(self.stdout, "{}", words.join(" ")).expect("text");
     }
 
     /// Counts a case to its kind where the record is one that a layout with unequal sizes gives.
-    fn count_unequal(&mut self, kind: usize, record: &expected::Record) {
+    pub fn count_unequal(&mut self, kind: usize, record: &expected::Record) {
         self.unequal[kind] += usize::from(expected::accepted(record).is_some_and(|(sizes, _)| one_size(&sizes).is_none()));
     }
 
     /// The answer buffer beforehand: small subnormals, another at each place.
-    fn buffer(len: usize) -> Vec<u32> {
+    pub fn buffer(len: usize) -> Vec<u32> {
         (0..len as u32).map(|i| 0xB0 + i).collect()
-    }
-
-    /// 1: a lookup.
-    pub fn lookup(&mut self, asked: Asked, table: &Table, inputs: &[f32], answer: usize) {
-        let inputs: Vec<u32> = inputs.iter().map(|x| plain(x.to_bits())).collect();
-        let (text, mut buffer) = (table.text(), List::buffer(answer));
-        self.asks(1, &[&asked.words(), &text, &[inputs.len() as u32], &inputs, &[answer as u32], &buffer]);
-        let (entries, record) = (table.entries(), asked.record());
-        self.entries += entries.len();
-        self.count_unequal(1, &record);
-        assert!(entries.len() <= ROOM);
-        let inputs: Vec<f32> = inputs.iter().map(|&b| f32::from_bits(b)).collect();
-        let number = expected::record_lookup(&record, entries.len(), &inputs, answer);
-        self.nans += usize::from(number == 16);
-        if number == 0 {
-            let (sizes, m) = expected::accepted(&record).expect("an accepted record");
-            if let Some(parted) = oracle::parted(&sizes, m, &entries, &inputs) {
-                self.excepted[0] += 1;
-                self.excepted[1] += usize::from(parted);
-            }
-            for (o, a) in oracle::lookup(&sizes, m, &entries, &inputs).iter().enumerate() {
-                buffer[o] = plain(a.to_bits());
-            }
-        }
-        self.answers(Some(number), buffer);
     }
 
     /// 2: a layout.

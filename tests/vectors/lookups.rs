@@ -1,5 +1,6 @@
 //! The lookups and nodes of the list.
 
+use crate::calls::Ask;
 use crate::grids::equal;
 use crate::list::{Asked, List, Table, ROOM};
 use crate::values::{fill_table, random_input, random_inputs, skipping, special_inputs, Rng, ENTRIES};
@@ -130,7 +131,7 @@ pub fn skips(list: &mut List, rng: &mut Rng) {
 /// Table, inputs and buffer at and around their limits, with a whole record and with a damaged one.
 pub fn limits(list: &mut List, rng: &mut Rng) {
     for (g, n, m) in [(1, 1, 1), (2, 1, 15), (3, 2, 2), (2, 3, 4), (2, 4, 3), (2, 5, 1), (1, 15, 15), (2, 9, 2)] {
-        around(list, rng, &equal(g, n), m);
+        around(list, rng, &equal(g, n), m, List::lookup);
     }
     // A refused layout leaves the zero record, which is refused 9.
     for (g, n, m) in [(2, 0, 1), (2, 16, 1), (2, 3, 0), (2, 3, 16), (0, 3, 3), (255, 5, 1), (4, 15, 4)] {
@@ -141,7 +142,7 @@ pub fn limits(list: &mut List, rng: &mut Rng) {
 }
 
 /// One layout with every choice of short, exact and long table, inputs and buffer where at most one of them is wrong, and some more.
-pub fn around(list: &mut List, rng: &mut Rng, sizes: &[u8], m: usize) {
+pub fn around(list: &mut List, rng: &mut Rng, sizes: &[u8], m: usize, ask: Ask) {
     let mut inputs = vec![0.0; 17];
     random_inputs(rng, sizes, &mut inputs);
     let (whole, n, all) = (Asked::whole(sizes, m), sizes.len(), total(sizes, m));
@@ -150,7 +151,7 @@ pub fn around(list: &mut List, rng: &mut Rng, sizes: &[u8], m: usize) {
             for count in [n - 1, n, n + 1] {
                 for answer in [m - 1, m, m + 2] {
                     if table == all || count == n || answer == m || asked.place == 40 && table == 0 {
-                        list.lookup(asked, &seeded(rng, table), &inputs[..count], answer);
+                        ask(list, asked, &seeded(rng, table), &inputs[..count], answer);
                     }
                 }
             }

@@ -1,5 +1,6 @@
 //! NaN inputs (document 02, E8): each ink in turn, and beside every other refusal. In the list all have one pattern (list.rs).
 
+use crate::calls::Ask;
 use crate::grids::equal;
 use crate::list::{Asked, List};
 use crate::lookups::{good, seeded, total};
@@ -13,7 +14,7 @@ pub fn all(list: &mut List, rng: &mut Rng) {
     }
     let grids: [(&[u8], usize); 6] = [(&[3], 1), (&[2, 3], 2), (&[2, 2, 2], 4), (&[3, 2, 2, 2], 3), (&[1, 2, 1, 2, 3], 1), (&[1; 15], 15)];
     for (sizes, m) in grids {
-        beside(list, rng, sizes, m);
+        beside(list, rng, sizes, m, List::lookup);
     }
 }
 
@@ -32,7 +33,7 @@ fn each_ink(list: &mut List, rng: &mut Rng, sizes: &[u8], m: usize) {
 
 /// A NaN at the first and at the last ink, and behind it, with a record that is whole or damaged, and a table, inputs and a buffer that are short or
 /// exact, and one input too many: 16 comes after 9, 6, 7 and 8.
-fn beside(list: &mut List, rng: &mut Rng, sizes: &[u8], m: usize) {
+pub fn beside(list: &mut List, rng: &mut Rng, sizes: &[u8], m: usize, ask: Ask) {
     let (whole, n, all) = (Asked::whole(sizes, m), sizes.len(), total(sizes, m));
     let table = seeded(rng, all);
     let mut numbers = vec![0.0; n + 1];
@@ -42,7 +43,7 @@ fn beside(list: &mut List, rng: &mut Rng, sizes: &[u8], m: usize) {
             for place in [0, n - 1, n].into_iter().filter(|&place| place < count) {
                 let mut inputs = numbers[..count].to_vec();
                 inputs[place] = f32::NAN;
-                list.lookup(asked, &table.of_length(entries), &inputs, answer);
+                ask(list, asked, &table.of_length(entries), &inputs, answer);
             }
         }
     }

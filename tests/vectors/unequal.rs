@@ -12,7 +12,7 @@ pub fn all(list: &mut List, rng: &mut Rng) {
     more_lines(list, rng);
     nodes(list, rng);
     for (sizes, m) in [(&[2, 3][..], 1), (&[3, 1, 2], 2)] {
-        around(list, rng, sizes, m);
+        around(list, rng, sizes, m, List::lookup);
     }
     each_place(list, rng, &[2, 4, 1, 3, 2], 3);
 }

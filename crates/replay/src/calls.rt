@@ -22,6 +22,7 @@ pub(crate) fn tabled(kind: usize, lut: MultidimensionalLut) {
     match kind {
         1 => lookup(lut, table),
         3 => node(lut, table),
+        13 => skipping(lut, table),
         _ => slabs::slab(lut, table),
     }
 }
@@ -42,6 +43,19 @@ fn lookup(lut: MultidimensionalLut, table: &[f32]) {
         io::write_all(STDOUT_FILENO, b" engines differ: ");
         print::answer(again, other);
     }
+}
+
+// The lookup with skipping: its number, how many nodes it read, and what it leaves in the buffer.
+fn skipping(lut: MultidimensionalLut, table: &[f32]) {
+    let n = words::count(4096);
+    let inputs = floats::buffer(true, n);
+    let r = words::count(4096);
+    let mut buffer = floats::buffer(true, r);
+    let left = &mut buffer[..r];
+    let counted = walk::skipping(lut, table, &inputs[..n], left);
+    print::number(counted.refusal);
+    print::word(counted.reads);
+    print::floats(left);
 }
 
 fn node(lut: MultidimensionalLut, table: &[f32]) {

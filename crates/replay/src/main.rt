@@ -16,7 +16,7 @@ fn main() {
     for _ in 0..65536usize {
         let kind = words::number();
         match kind {
-            1 | 3 => calls::tabled(kind, record::asked()),
+            1 | 3 | 13 => calls::tabled(kind, record::asked()),
             2 => calls::layout(),
             4 => cells::weight(),
             5 => cells::weights(),
