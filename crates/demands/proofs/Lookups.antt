@@ -1,7 +1,7 @@
 -- A lookup sees the entries at the nodes of its cells alone, and stays near 0 to 1 where these and the weights are from 0 to 1: for any count of inks.
 -- Assumes nothing.
 use Prim.Native.Nat.{_+_, _*_, _≤_}
-use mathlib.Core.Path.{_≡_, refl}
+use mathlib.Core.Path.{_≡_}
 use native.Mathlib.Omega.{arith}
 use mathlib.Core.Bool.{Bool, true, false, cond}
 use mathlib.Core.List.{List, [], _∷_}

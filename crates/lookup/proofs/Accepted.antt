@@ -1,6 +1,6 @@
 -- What a lookup by an accepted layout's record owes is what the lookup by sizes owes. Assumes nothing.
 use Prim.Native.Nat.{ℕ}
-use mathlib.Core.Path.{_≡_, sym, ap, subst, _∙_}
+use mathlib.Core.Path.{_≡_, sym, ap, _∙_}
 use mathlib.Core.Bool.{Bool}
 use mathlib.Core.List.{List}
 use lib.Ieee.{Float}
@@ -8,7 +8,7 @@ use lib.ListN.{length}
 use Rattle.outcome.specs.Outcome.{orElse}
 use Rattle.lists.specs.Buffer.{left}
 use Rattle.layout.specs.declared.Laid.{Laid}
-use Rattle.layout.specs.Layout.{laidOf, IsLayout, LaidBy}
+use Rattle.layout.specs.Layout.{laidOf, LaidBy}
 use Rattle.layout.proofs.BySizes.{laid-outputs}
 use Rattle.lookup.specs.Table.{answerWith, refusal, refusalBySizes, LookedWith, LookedBySizesWith}
 

@@ -9,7 +9,6 @@ use mathlib.Core.List.{List, [], _∷_}
 use lib.Ieee.{Float}
 use lib.ListN.{length, take}
 use Rattle.cell.specs.declared.Cell.{Cell}
-use Rattle.lookup.specs.Lookup.{never}
 use Rattle.lookup.specs.Table.{cells}
 use Rattle.lookup.specs.Idle.{reads, weightsOf, fourthOn, active}
 
@@ -23,11 +22,6 @@ pub length-cells : (gs : List ℕ) (xs : List Float) → length (cells gs xs) �
 unfolding cells
 length-cells [] xs = refl
 length-cells (g ∷ gs) xs = ap suc (length-cells gs xs)
-
--- with nothing to be skipped all are active
-pub active-never : (ws : List Float) → active never ws ≡ length ws
-active-never [] = refl
-active-never (w ∷ ws) = ap suc (active-never ws)
 
 -- ---- the reads
 

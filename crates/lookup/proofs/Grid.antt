@@ -1,17 +1,17 @@
 -- The inks of an accepted layout, with their filling sizes: they lie within the table, and their answers are those of the table. Assumes nothing.
-use Prim.Native.Nat.{ℕ, zero, suc, _+_, _-_, _*_, _≤_, _<_}
+use Prim.Native.Nat.{ℕ, zero, suc, _+_, _-_, _*_, _≤_}
 use native.Mathlib.Omega.{arith}
-use mathlib.Core.Path.{_≡_, refl, sym, ap, ap₂, subst, _∙_}
+use mathlib.Core.Path.{_≡_, refl, sym, ap, ap₂, _∙_}
 use mathlib.Core.Bool.{Bool}
-use mathlib.Core.List.{List, [], _∷_, _++_}
+use mathlib.Core.List.{List, [], _∷_}
 use lib.Dec.{ltb}
 use lib.Ieee.{Float, nan}
 use lib.ListN.{length, getD}
 use borrow.Author.Tests.{lt-ltb}
 use Rattle.lists.specs.Lists.{lastFirst, product}
-use Rattle.lists.specs.Buffer.{written, left}
+use Rattle.lists.specs.Buffer.{written}
 use Rattle.lists.proofs.Lists.{length-last-first, every-last-first}
-use Rattle.lists.proofs.Buffer.{written-same, left-same}
+use Rattle.lists.proofs.Buffer.{written-same}
 use Rattle.cell.specs.declared.Cell.{Cell}
 use Rattle.cell.specs.Rule.{inkCell, scale}
 use Rattle.layout.specs.declared.MultidimensionalLut.{MultidimensionalLut}

@@ -1,4 +1,5 @@
--- Document 02, E6: the lookup that at inks four and up visits only the lower part where the weight is 0, and how many nodes it reads. Definitions only.
+-- Document 02, E6: the lookup that at inks four and up visits only the lower part where the weight is 0, and how many nodes it reads.
+-- Definitions only.
 use Prim.Native.Nat.{ℕ, suc, _+_, _-_}
 use mathlib.Core.Path.{_≡_}
 use mathlib.Core.Bool.{Bool, cond}
@@ -22,6 +23,7 @@ reads skip (t ∷ w ∷ v ∷ u ∷ ws) =
     let lower = reads skip (w ∷ v ∷ u ∷ ws) in
     cond (skip t) lower (lower + lower)
 
+-- the weights of cells
 abbrev pub weightsOf : List Cell → List Float
 weightsOf [] = []
 weightsOf (c ∷ cs) = c .w ∷ weightsOf cs

@@ -16,9 +16,9 @@ Grid = List ℕ → Float
 abbrev pub part : Grid → ℕ → Grid
 part f k ks = f (k ∷ ks)
 
--- With no ink the answer is the one entry; one ink, two inks and three have their own blends; from the fourth ink on the answer lies between two
--- lookups with one ink fewer, in the parts at the last ink's lower and upper node. Where the ink's weight is to be skipped, it is the lower one as it
--- stands, and the upper part is not visited.
+-- With no ink the answer is the one entry; one ink, two inks and three have their own blends; from the fourth ink on the answer lies
+-- between two lookups with one ink fewer, in the parts at the last ink's lower and upper node. Where the ink's weight is to be skipped,
+-- it is the lower one as it stands, and the upper part is not visited.
 unfoldable pub lookupWith : (Float → Bool) → Grid → List Cell → Float
 lookupWith skip f [] = f []
 lookupWith skip f (c ∷ []) = along (f (c .x ∷ [])) (f (c .«x_n» ∷ [])) (c .w)

@@ -2,12 +2,11 @@
 -- entries, from a table part's start to its lower and its upper node. Definitions only.
 use Prim.Native.Nat.{ℕ, zero, suc, _+_, _*_, _≤_, _<_, max}
 use mathlib.Core.Path.{_≡_}
-use mathlib.Core.Bool.{Bool, true, false, not, cond}
+use mathlib.Core.Bool.{Bool, false, cond}
 use mathlib.Core.List.{List, [], _∷_}
 use lib.Dec.{ltb}
-use lib.Ieee.{Float, nan, isNan, le}
-use lib.ListN.{length, getD, drop}
-use Rattle.binary32.specs.Blend.{lerp, terms, rise}
+use lib.Ieee.{Float, nan, isNan}
+use lib.ListN.{length, getD}
 use Rattle.lists.specs.Lists.{lastFirst, product}
 use Rattle.lists.specs.Buffer.{left}
 use Rattle.cell.specs.declared.Cell.{Cell}

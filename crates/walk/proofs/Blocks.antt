@@ -57,9 +57,6 @@ pub three-stored : (s : List Float) (i : ℕ) (f : Four) → set (set (set s i (
 unfolding writtenFrom
 three-stored s i f = rw (add-zero i) refl
 
-pub stored-length : (s : List Float) (i : ℕ) (f : Four) → length (writtenFrom i (lane f) 4 s) ≡ length s
-stored-length s i f = length-written-from i (lane f) 4 s
-
 -- ---- a block given
 
 pub given-block : (f : ℕ → Float) (o n m : ℕ) (old now : List Float) → now ≡ writtenFrom o f n old → o + n ≤ length old → ((k : ℕ) → k < 4 → o + k < m → k < n) → Given f o m old now

@@ -12,7 +12,7 @@ use Rattle.lists.specs.Lists.{lastFirst}
 use Rattle.lists.proofs.Lists.{length-last-first}
 use Rattle.layout.specs.Order.{index}
 use Rattle.lookup.specs.Table.{cells}
-use Rattle.lookup.specs.Places.{answerIn, Settled, SettledIn, SettledWith}
+use Rattle.lookup.specs.Places.{Settled, SettledIn, SettledWith}
 use Rattle.lookup.specs.Idle.{weightsOf}
 use Rattle.lookup.proofs.More.{lookup-few}
 use Rattle.lookup.proofs.Counts.{length-weights, length-cells, reads-one, reads-two}

@@ -23,7 +23,6 @@ use Rattle.lookup.proofs.Counts.{length-weights, reads-three}
 use Rattle.walk.specs.Steps.{stepCell, stepsAt, stepped, fourth}
 use Rattle.walk.specs.Walk as walk
 use Rattle.walk.specs.Kept.{kept, keptAt}
-use Rattle.walk.proofs.Above.{reach-over}
 use Rattle.walk.proofs.Steps.{split, length-steps}
 
 -- each weight is from 0 up and below 1

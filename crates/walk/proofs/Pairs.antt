@@ -11,7 +11,7 @@ use mir.Syntax.{w64}
 use mir.Val.{Fits}
 use Rattle.binary32.specs.Blend.{along}
 use Rattle.cell.specs.declared.Cell.{Cell}
-use Rattle.lookup.specs.Lookup.{node, lookupWith, lookup}
+use Rattle.lookup.specs.Lookup.{node, lookupWith}
 use Rattle.lookup.specs.Places.{reach, answer}
 use Rattle.lookup.proofs.Room.{Room}
 

@@ -1,21 +1,20 @@
 -- A lookup by steps from the lowest corner is the lookup by both nodes; and the loop over the inks. Assumes nothing.
-use Prim.Native.Nat.{ℕ, zero, suc, _+_, _-_, _*_, _<_, _≤_, max}
+use Prim.Native.Nat.{ℕ, zero, suc, _+_, _-_, _<_, _≤_}
 use native.Mathlib.Omega.{arith}
-use native.Mathlib.Nat.{add-zero, zero-add, mul-le-mul-right}
+use native.Mathlib.Nat.{zero-add}
 use native.Mathlib.Numerals.{add-one}
-use native.Mathlib.Decide.{decLe}
-use mathlib.Core.Path.{_≡_, refl, ap, ap₂, sym, subst, fun-ext, _∙_}
+use mathlib.Core.Path.{_≡_, refl, ap, ap₂, sym, fun-ext, _∙_}
 use mathlib.Core.Bool.{Bool, true, false, cond, true≢false}
-use mathlib.Core.List.{List, [], _∷_, _++_}
+use mathlib.Core.List.{List, [], _∷_}
 use lib.Ieee.{Float, nan, isNan}
 use lib.ListN.{length, getD, take, drop, set, length-set}
-use lib.Seq.{getD-drop, getD-set-same, getD-set-other}
+use lib.Seq.{getD-drop, getD-set-same}
 use Rattle.binary32.specs.Blend.{along, square, tetra, lerp}
 use Rattle.lists.specs.Lists.{some}
 use Rattle.cell.specs.declared.Cell.{Cell}
 use Rattle.cell.proofs.Said.{tells-value, tells-none}
 use Rattle.lookup.specs.Lookup.{Grid, part, node, lookupWith}
-use Rattle.lookup.specs.Places.{sum, within, reach, answerBy, placedInk, firstInks, NoNans}
+use Rattle.lookup.specs.Places.{sum, reach, answerBy, placedInk, firstInks, NoNans}
 use Rattle.lookup.specs.Idle.{weightsOf}
 use Rattle.lookup.proofs.Part.{from-drop}
 use Rattle.walk.proofs.Kept.{steps-kept}

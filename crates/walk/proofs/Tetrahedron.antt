@@ -6,10 +6,10 @@ use mathlib.Core.Path.{_≡_, refl, ap, sym, subst, fun-ext, _∙_}
 use mathlib.Core.Bool.{Bool, true, false, not, cond}
 use mathlib.Core.List.{List, [], _∷_}
 use lib.Ieee.{Float, nan, le}
-use lib.ListN.{length, getD}
+use lib.ListN.{getD}
 use Rattle.binary32.specs.Blend.{mlaf, rise, terms, six}
 use Rattle.binary32.specs.Range.{Below}
-use Rattle.lookup.specs.Lookup.{node, lookupWith, lookup}
+use Rattle.lookup.specs.Lookup.{node, lookupWith}
 use Rattle.lookup.specs.Places.{within, answer}
 use Rattle.walk.proofs.Weights.{le-through, le-fails}
 use Rattle.walk.specs.declared.Four.{Four}

@@ -1,5 +1,5 @@
 -- Each public function asks nothing of its caller, its statement leaves one outcome, and that is the first engine's. Assumes nothing.
-use mathlib.Core.Path.{_≡_, sym, ap, _∙_}
+use mathlib.Core.Path.{sym, ap, _∙_}
 use mathlib.Core.List.{List}
 use lib.Ieee.{Float}
 use Rattle.outcome.specs.Outcome.{OneOutcome, Agree}

@@ -1,7 +1,6 @@
 -- Cells by their steps from the lowest corner, and the plan of three inks by their steps. For the contracts of private functions alone.
 -- Definitions only.
 use Prim.Native.Nat.{ℕ, zero, suc, _+_, _-_, _≤_, _<_}
-use mathlib.Core.Path.{_≡_}
 use mathlib.Core.Bool.{Bool, true, false, not, cond}
 use mathlib.Core.List.{List, [], _∷_}
 use lib.Ieee.{Float, nan, isNan, le}

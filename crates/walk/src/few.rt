@@ -189,9 +189,10 @@ pub(crate) fn three_or_four(
     requires { ⌜ Promised (now filling) (now sizes) (length (now inputs)) m × (3 ≤ length (now inputs)) × (length (now inputs) ≤ 4) ⌝ }
     requires { ⌜ product (lastFirst (length (now inputs)) (now sizes)) * m ≤ length (now table) ⌝ }
     requires room { ⌜ m ≤ length (now answer) ⌝ }
-    ensures { λ r. ⌜ SettledWith (skipOf skipping) (now (sizes .entry)) m (now (table .entry)) (now (inputs .entry)) (now (answer .entry)) (r .refusal)
-        (now (answer .exit)) ⌝ }
-    ensures reads { λ r. ⌜ Counts (readsIn (skipOf skipping) (lastFirst (length (now (inputs .entry))) (now (sizes .entry))) (now (inputs .entry))) r ⌝ }
+    ensures { λ r. ⌜ SettledWith (skipOf skipping) (now (sizes .entry)) m (now (table .entry)) (now (inputs .entry)) (now (answer .entry))
+        (r .refusal) (now (answer .exit)) ⌝ }
+    ensures reads { λ r. ⌜ Counts
+        (readsIn (skipOf skipping) (lastFirst (length (now (inputs .entry))) (now (sizes .entry))) (now (inputs .entry))) r ⌝ }
 {
     let first = cells::ink(filling, sizes, inputs, 0);
     let Found::At(c) = first else {

@@ -10,7 +10,6 @@ mod many;
 mod tetra;
 
 use layout::MultidimensionalLut;
-ghost use mathlib.Core.Path.{_≡_};
 ghost use Prim.Native.Nat.{_*_, _≤_};
 ghost use lib.ListN.{length};
 ghost use Rattle.lists.specs.Lists.{lastFirst, product};
@@ -68,9 +67,10 @@ fn write(
     requires { ⌜ Promised (now filling) (now sizes) (length (now inputs)) m ⌝ }
     requires { ⌜ product (lastFirst (length (now inputs)) (now sizes)) * m ≤ length (now table) ⌝ }
     requires room { ⌜ m ≤ length (now answer) ⌝ }
-    ensures { λ r. ⌜ SettledWith (skipOf skipping) (now (sizes .entry)) m (now (table .entry)) (now (inputs .entry)) (now (answer .entry)) (r .refusal)
-        (now (answer .exit)) ⌝ }
-    ensures reads { λ r. ⌜ Counts (readsIn (skipOf skipping) (lastFirst (length (now (inputs .entry))) (now (sizes .entry))) (now (inputs .entry))) r ⌝ }
+    ensures { λ r. ⌜ SettledWith (skipOf skipping) (now (sizes .entry)) m (now (table .entry)) (now (inputs .entry)) (now (answer .entry))
+        (r .refusal) (now (answer .exit)) ⌝ }
+    ensures reads { λ r. ⌜ Counts
+        (readsIn (skipOf skipping) (lastFirst (length (now (inputs .entry))) (now (sizes .entry))) (now (inputs .entry))) r ⌝ }
 {
     let n = inputs.len();
     if n <= 2 {
@@ -96,8 +96,8 @@ fn answered(
     skipping: bool,
 ) -> Counted
     requires { ⌜ Promised (now filling) (now sizes) n m ⌝ }
-    ensures { λ r. ⌜ Answered (skipOf skipping) (lastFirst n (now (sizes .entry))) n m (now (table .entry)) (now (inputs .entry)) (now (answer .entry))
-        (r .refusal) (now (answer .exit)) ⌝ }
+    ensures { λ r. ⌜ Answered (skipOf skipping) (lastFirst n (now (sizes .entry))) n m (now (table .entry)) (now (inputs .entry))
+        (now (answer .entry)) (r .refusal) (now (answer .exit)) ⌝ }
     ensures reads { λ r. ⌜ Counts (readsIn (skipOf skipping) (lastFirst n (now (sizes .entry))) (now (inputs .entry))) r ⌝ }
 {
     let total = (filling[0] as u64) * (sizes[0] as u64);
@@ -119,7 +119,8 @@ fn looked(
     answer: &mut [f32],
     skipping: bool,
 ) -> Counted
-    ensures { λ r. ⌜ LookedWith (skipOf skipping) lut (now (table .entry)) (now (inputs .entry)) (now (answer .entry)) (r .refusal) (now (answer .exit)) ⌝ }
+    ensures { λ r. ⌜ LookedWith (skipOf skipping) lut (now (table .entry)) (now (inputs .entry)) (now (answer .entry)) (r .refusal)
+        (now (answer .exit)) ⌝ }
     ensures reads { λ r. ⌜ Counts (readsAt (skipOf skipping) lut (now (inputs .entry))) r ⌝ }
 {
     if !layout::is_layout(lut) {
@@ -142,8 +143,8 @@ fn looked_by_sizes(
     answer: &mut [f32],
     skipping: bool,
 ) -> Counted
-    ensures { λ r. ⌜ LookedBySizesWith (skipOf skipping) (now (sizes .entry)) n m (now (table .entry)) (now (inputs .entry)) (now (answer .entry)) (r .refusal)
-        (now (answer .exit)) ⌝ }
+    ensures { λ r. ⌜ LookedBySizesWith (skipOf skipping) (now (sizes .entry)) n m (now (table .entry)) (now (inputs .entry))
+        (now (answer .entry)) (r .refusal) (now (answer .exit)) ⌝ }
     ensures reads { λ r. ⌜ Counts (readsAt (skipOf skipping) (laidOf (now (sizes .entry)) n m .lut) (now (inputs .entry))) r ⌝ }
 {
     let mut filling = [1u32; 16];
@@ -170,7 +171,8 @@ pub fn lookup_by_sizes(
     inputs: &[f32],
     answer: &mut [f32],
 ) -> u32
-    ensures { λ r. ⌜ LookedBySizes (now (sizes .entry)) n m (now (table .entry)) (now (inputs .entry)) (now (answer .entry)) r (now (answer .exit)) ⌝ }
+    ensures { λ r. ⌜ LookedBySizes (now (sizes .entry)) n m (now (table .entry)) (now (inputs .entry)) (now (answer .entry)) r
+        (now (answer .exit)) ⌝ }
 {
     looked_by_sizes(sizes, n, m, table, inputs, answer, false).refusal
 }
@@ -183,7 +185,8 @@ pub fn skipping(
     inputs: &[f32],
     answer: &mut [f32],
 ) -> Counted
-    ensures { λ r. ⌜ LookedSkipping lut (now (table .entry)) (now (inputs .entry)) (now (answer .entry)) (r .refusal) (r .reads) (now (answer .exit)) ⌝ }
+    ensures { λ r. ⌜ LookedSkipping lut (now (table .entry)) (now (inputs .entry)) (now (answer .entry)) (r .refusal) (r .reads)
+        (now (answer .exit)) ⌝ }
 {
     looked(lut, table, inputs, answer, true)
 }
@@ -197,8 +200,8 @@ pub fn skipping_by_sizes(
     inputs: &[f32],
     answer: &mut [f32],
 ) -> Counted
-    ensures { λ r. ⌜ LookedSkippingBySizes (now (sizes .entry)) n m (now (table .entry)) (now (inputs .entry)) (now (answer .entry)) (r .refusal) (r .reads)
-        (now (answer .exit)) ⌝ }
+    ensures { λ r. ⌜ LookedSkippingBySizes (now (sizes .entry)) n m (now (table .entry)) (now (inputs .entry)) (now (answer .entry))
+        (r .refusal) (r .reads) (now (answer .exit)) ⌝ }
 {
     looked_by_sizes(sizes, n, m, table, inputs, answer, true)
 }

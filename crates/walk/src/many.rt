@@ -239,9 +239,10 @@ pub(crate) fn many(
     requires { ⌜ Promised (now filling) (now sizes) (length (now inputs)) m × (3 ≤ length (now inputs)) ⌝ }
     requires { ⌜ product (lastFirst (length (now inputs)) (now sizes)) * m ≤ length (now table) ⌝ }
     requires room { ⌜ m ≤ length (now answer) ⌝ }
-    ensures { λ r. ⌜ SettledWith (skipOf skipping) (now (sizes .entry)) m (now (table .entry)) (now (inputs .entry)) (now (answer .entry)) (r .refusal)
-        (now (answer .exit)) ⌝ }
-    ensures reads { λ r. ⌜ Counts (readsIn (skipOf skipping) (lastFirst (length (now (inputs .entry))) (now (sizes .entry))) (now (inputs .entry))) r ⌝ }
+    ensures { λ r. ⌜ SettledWith (skipOf skipping) (now (sizes .entry)) m (now (table .entry)) (now (inputs .entry)) (now (answer .entry))
+        (r .refusal) (now (answer .exit)) ⌝ }
+    ensures reads { λ r. ⌜ Counts
+        (readsIn (skipOf skipping) (lastFirst (length (now (inputs .entry))) (now (sizes .entry))) (now (inputs .entry))) r ⌝ }
 {
     let mut step = [0usize; 16];
     let mut w = [0.0f32; 16];

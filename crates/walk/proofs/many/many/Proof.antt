@@ -1,7 +1,7 @@
 -- `walk::many::many` meets its contract: 16 where an input is NaN, else the answers of the inks kept, from the lowest corner on, and their reads. Assumes nothing.
 use Prim.Native.Nat.{ℕ, _+_, _-_, _*_, _^_, _≤_}
 use native.Mathlib.Omega.{arith}
-use mathlib.Core.Path.{_≡_, refl, sym, ap, _∙_}
+use mathlib.Core.Path.{_≡_, refl, sym, _∙_}
 use mathlib.Core.Bool.{Bool, false}
 use mathlib.Core.List.{List, _++_}
 use lib.Ieee.{Float, isNan}
