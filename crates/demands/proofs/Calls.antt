@@ -14,9 +14,9 @@ use Rattle.layout.specs.Layout.{laid_of, entries}
 use Rattle.layout.proofs.BySizes.{laid-is-layout, laid-inks}
 use Rattle.lookup.specs.Lookup.{never}
 use Rattle.lookup.specs.Table.{answer_at, Looked}
-use Rattle.slab.specs.Slab.{without, fewer, SlabCut}
-use Rattle.slab.proofs.Fewer.{fewer-outputs, laid-fewer}
-use Rattle.slab.proofs.Cutting.{cut-passed}
+use Rattle.grid_slab.specs.Slab.{without, fewer, SlabCut}
+use Rattle.grid_slab.proofs.Fewer.{fewer-outputs, laid-fewer}
+use Rattle.grid_slab.proofs.Cutting.{cut-passed}
 use Rattle.demands.specs.Demand.{Cuttable, AcceptedInputs, Shares, OnLine}
 use Rattle.demands.proofs.Demands.{on-a-line}
 use Rattle.demands.proofs.Inputs.{looked-accepted, looked-at}

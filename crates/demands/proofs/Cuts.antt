@@ -14,7 +14,7 @@ use Rattle.cell.specs.Rule.{line, product_of, cell_low}
 use Rattle.layout.specs.Order.{Within}
 use Rattle.lookup.specs.Lookup.{Grid, lookup}
 use Rattle.lookup.specs.Table.{cells}
-use Rattle.slab.specs.Slab.{insert, without}
+use Rattle.grid_slab.specs.Slab.{insert, without}
 use Rattle.demands.proofs.Each.{All, all_map, all-at, Each, each-lowers, Weights}
 use Rattle.demands.proofs.Lines.{Zero, lookup-node, lookup-cut}
 use Rattle.demands.proofs.InkCells.{Sized, OnLines, low, low-sound, lows, length-cells, cells-within, low_stands, lows-at, lows-node, lows-zeros, lows-without}

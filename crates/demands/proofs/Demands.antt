@@ -17,17 +17,17 @@ use Rattle.layout.proofs.Order.{entries-within}
 use Rattle.layout.proofs.Laws.{inks-to, size-from, size-to, ink-count, size-of}
 use Rattle.lookup.specs.Lookup.{Grid, lookup, never}
 use Rattle.lookup.specs.Table.{output, answer_with, answer_at}
-use Rattle.slab.specs.Slab.{insert, without, size_of, fewer, SlabCut}
+use Rattle.grid_slab.specs.Slab.{insert, without, size_of, fewer, SlabCut}
 use Rattle.demands.specs.Demand.{Cuttable, AcceptedInputs, Shares, OnLine, AtANode, OnALine}
 use Rattle.demands.proofs.Each.{All, all-last-first, each_map}
 use Rattle.demands.proofs.Lookups.{lookup-agrees}
-use Rattle.slab.proofs.Without.{length_without, some-without}
+use Rattle.grid_slab.proofs.Without.{length_without, some-without}
 use Rattle.demands.proofs.InkCells.{Sized, OnLines, low, low-sound, lows, on-lines, cells-within}
 use Rattle.demands.proofs.Rules.{Shared, rules-same}
 use Rattle.demands.proofs.Cuts.{line-in, node_in, node-answer, cut-answer}
-use Rattle.slab.proofs.Fewer.{fewer-inks, fewer-outputs, fewer-is-layout}
-use Rattle.slab.proofs.Slabs.{others-are, slab-entry, slab-all}
-use Rattle.slab.proofs.Cutting.{slab-cut-length, passed-done, cut-passed, cut-entry}
+use Rattle.grid_slab.proofs.Fewer.{fewer-inks, fewer-outputs, fewer-is-layout}
+use Rattle.grid_slab.proofs.Slabs.{others-are, slab-entry, slab-all}
+use Rattle.grid_slab.proofs.Cutting.{slab-cut-length, passed-done, cut-passed, cut-entry}
 
 sized : (lut : MultidimensionalLut) → IsLayout lut → (i : ℕ) → i < lut.input_inks → Sized (get_or lut.grid_sizes i 0)
 sized lut is i h = (size-from lut is i h, omega (arith, size-to lut is i))

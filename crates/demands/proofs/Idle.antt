@@ -31,8 +31,8 @@ use Rattle.lookup.specs.Lookup.{Grid, part, lookup_with, lookup, never, idle}
 use Rattle.lookup.specs.Table.{output, cells, answer_with, answer_at}
 use Rattle.lookup.specs.Idle.{weights_of, reads_at, fourth_on, active}
 use Rattle.lookup.proofs.Counts.{length-weights, length-cells, reads-one, reads_two, reads_three, active-most}
-use Rattle.slab.specs.Slab.{without, fewer}
-use Rattle.slab.proofs.Fewer.{fewer-outputs}
+use Rattle.grid_slab.specs.Slab.{without, fewer}
+use Rattle.grid_slab.proofs.Fewer.{fewer-outputs}
 use Rattle.demands.specs.Demand.{AtANode, OnALine}
 use Rattle.demands.specs.Idle.{SameAnswers, ReadsOf, most_reads}
 use Rattle.demands.proofs.Each.{Each, Weights}

@@ -20,9 +20,9 @@ use Rattle.lists.proofs.Lists.{reverse-next}
 use Rattle.layout.specs.Order.{Within}
 use Rattle.lookup.specs.Lookup.{node}
 use Rattle.lookup.specs.Table.{cells}
-use Rattle.slab.specs.Slab.{without}
+use Rattle.grid_slab.specs.Slab.{without}
 use Rattle.demands.proofs.Each.{either_way, All, Each, each_map, Weights, lowers}
-use Rattle.slab.proofs.Without.{length_without, get_or-without-below, get_or-without-from}
+use Rattle.grid_slab.proofs.Without.{length_without, get_or-without-below, get_or-without-from}
 
 -- a size that a layout accepts
 abbrev pub Sized : ℕ → Type 0

@@ -20,11 +20,11 @@ use Rattle.binary32.proofs.Nodes.{mlaf-zero, lerp-zero, along-zero}
 use Rattle.binary32.proofs.Means.{along-held}
 use Rattle.cell.specs.declared.Cell.{Cell}
 use Rattle.lookup.specs.Lookup.{Grid, node, part, lookup_with, lookup, never}
-use Rattle.slab.specs.Slab.{insert, without}
+use Rattle.grid_slab.specs.Slab.{insert, without}
 use Rattle.demands.proofs.Each.{either_way, Each, Weights, lowers}
 use Rattle.lookup.proofs.More.{lookup-more}
 use Rattle.demands.proofs.Lookups.{lookup-held}
-use Rattle.slab.proofs.Without.{length_without}
+use Rattle.grid_slab.proofs.Without.{length_without}
 
 abbrev pub Zero : Float → Type 0
 Zero w = Same w plus_zero

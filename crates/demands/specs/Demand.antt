@@ -10,7 +10,7 @@ use Rattle.cell.specs.Rule.{line, product_of}
 use Rattle.layout.specs.declared.MultidimensionalLut.{MultidimensionalLut}
 use Rattle.layout.specs.Layout.{IsLayout, entries}
 use Rattle.lookup.specs.Table.{output}
-use Rattle.slab.specs.Slab.{without, fewer, SlabCut}
+use Rattle.grid_slab.specs.Slab.{without, fewer, SlabCut}
 
 -- the inks j of n that demand 3 speaks of: the fourth and those above it
 abbrev pub Cuttable : ℕ → ℕ → Type 0

@@ -9,6 +9,6 @@ pub(crate) fn slab(lut: MultidimensionalLut, table: &[f32]) {
     let r = words::count(4096);
     let mut buffer = floats::buffer(false, r);
     let left = &mut buffer[..r];
-    let number = slab::cut_slab(lut, table, j, k, left);
+    let number = grid_slab::cut_slab(lut, table, j, k, left);
     print::answer(number, left);
 }

@@ -15,7 +15,7 @@ use Rattle.layout.specs.Order.{index}
 use Rattle.layout.specs.Layout.{laid_of, IsLayout, ink_sizes, entries}
 use Rattle.layout.proofs.BySizes.{laid-outputs}
 use Rattle.nodes.specs.Node.{node_refusal, NodeRefused, NodePlaced}
-use Rattle.slab.specs.Slab.{fewer, slab, refusal, SlabCut}
+use Rattle.grid_slab.specs.Slab.{fewer, slab, refusal, SlabCut}
 use Rattle.tenahvar.specs.Slab.{slab_number, SlabTaken}
 use Rattle.tenahvar.specs.Node.{node_number, NodeFound}
 

@@ -4,7 +4,7 @@ use Rattle.std.specs.Float.{nan}
 use Rattle.outcome.specs.Outcome.{or_else}
 use Rattle.lists.specs.Buffer.{left}
 use Rattle.layout.specs.Layout.{laid_of, entries}
-use Rattle.slab.specs.Slab.{fewer, slab, refusal}
+use Rattle.grid_slab.specs.Slab.{fewer, slab, refusal}
 
 -- 1, 2, 3, 5, then 6, 11, 12, 8
 abbrev pub slab_number : List ℕ → ℕ → ℕ → ℕ → ℕ → ℕ → ℕ → ℕ

@@ -132,7 +132,7 @@ pub extern "C" fn tenahvar_cut_slab(
     if whole.refusal != 0 {
         return whole.refusal;
     }
-    slab::cut_slab(whole.lut, table, j, k, slab)
+    grid_slab::cut_slab(whole.lut, table, j, k, slab)
 }
 
 // Reads a CLUT element: refusals 13, 1, 2, 3, 5, 14, 15, 8. On 0 `sizes` is the record's and the first total places of `entries` are set;

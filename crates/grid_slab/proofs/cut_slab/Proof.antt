@@ -1,4 +1,4 @@
--- `slab::cut_slab` meets its contract: what was checked is what is copied, and the runs make the slab. Assumes nothing.
+-- `grid_slab::cut_slab` meets its contract: what was checked is what is copied, and the runs make the slab. Assumes nothing.
 use Prim.Native.Nat.{ℕ, ◌-◌, ◌*◌, ◌/◌, ◌≤◌, ◌<◌}
 use mathlib.Core.Path.{◌≡◌, sym, ◌∙◌, subst}
 use native.Mathlib.Omega.{arith}
@@ -9,11 +9,11 @@ use Rattle.lists.specs.Buffer.{written}
 use Rattle.layout.specs.Layout.{limit}
 use Rattle.layout.proofs.Laws.{first-filling, inks-to}
 use Rattle.layout.specs.declared.MultidimensionalLut.{MultidimensionalLut}
-use Rattle.slab.specs.Slab.{size_of}
-use Rattle.slab.specs.Runs.{turns_of, cut_entry, Fit}
-use Rattle.slab.proofs.Cutting.{Passed, checked-passed, run_is, turn-some, turn-within, turns-are, turns_fit, runs-slab, cut-refused, cut-done}
-use Rattle.slab.proofs.cut_slab.Statement.{statement}
-use Rattle.slab.proofs.cut_slab.Tie as tie
+use Rattle.grid_slab.specs.Slab.{size_of}
+use Rattle.grid_slab.specs.Runs.{turns_of, cut_entry, Fit}
+use Rattle.grid_slab.proofs.Cutting.{Passed, checked-passed, run_is, turn-some, turn-within, turns-are, turns_fit, runs-slab, cut-refused, cut-done}
+use Rattle.grid_slab.proofs.cut_slab.Statement.{statement}
+use Rattle.grid_slab.proofs.cut_slab.Tie as tie
 
 passed : (c : tie.Else1) → let a = c.before.before.before.before.args in Passed a.lut (length a.table.now) a.j a.k (length a.slab.now)
 passed c = checked-passed _ _ _ _ _ _ c.before.refused.ensures c.if1.false

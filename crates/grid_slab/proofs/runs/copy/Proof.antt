@@ -1,4 +1,4 @@
--- `slab::runs::copy` meets its contract: after t turns t runs are written. Assumes nothing.
+-- `grid_slab::runs::copy` meets its contract: after t turns t runs are written. Assumes nothing.
 use Prim.Native.Nat.{ℕ, ◌+◌, ◌-◌, ◌*◌, ◌≤◌, ◌<◌}
 use mathlib.Core.Path.{ap, ◌∙◌}
 use native.Mathlib.Nat.{le_antisymm, le-mul_of_pos_right}
@@ -7,10 +7,10 @@ use lib.ListN.{length}
 use borrow.Author.Rules.{rules}
 use Rattle.lists.specs.Buffer.{written}
 use Rattle.lists.proofs.Buffer.{length-written}
-use Rattle.slab.specs.Runs.{cut_entry}
-use Rattle.slab.proofs.Places.{Runs, runs_none, runs-next, run-held, run_room}
-use Rattle.slab.proofs.runs.copy.Statement.{statement}
-use Rattle.slab.proofs.runs.copy.Tie as tie
+use Rattle.grid_slab.specs.Runs.{cut_entry}
+use Rattle.grid_slab.proofs.Places.{Runs, runs_none, runs-next, run-held, run_room}
+use Rattle.grid_slab.proofs.runs.copy.Statement.{statement}
+use Rattle.grid_slab.proofs.runs.copy.Tie as tie
 
 abbrev invariant-loop : tie.invariant-loop
 invariant-loop table run lines k turns slab₀ t₀ slab t = (t ≤ turns) × Runs table run lines k slab₀ t slab

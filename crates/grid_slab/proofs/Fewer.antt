@@ -18,8 +18,8 @@ use Rattle.layout.proofs.Accepted.{Accepted, done, laid-accepted}
 use Rattle.layout.proofs.Facts.{used_sizes, facts-of, facts-made, layout_of}
 use Rattle.layout.proofs.Laws.{inks-to, ink-count, size-from, size-to, size-of}
 use Rattle.layout.proofs.BySizes.{laid-inks, laid-outputs, laid-used}
-use Rattle.slab.specs.Slab.{without, size_of, fewer}
-use Rattle.slab.proofs.Without.{length_without, get_or-without-below, get_or-without-from, without-last-first, every-without, product-part}
+use Rattle.grid_slab.specs.Slab.{without, size_of, fewer}
+use Rattle.grid_slab.proofs.Without.{length_without, get_or-without-below, get_or-without-from, without-last-first, every-without, product-part}
 
 module _ (lut : MultidimensionalLut) (is : IsLayout lut) (two : 2 ≤ lut.input_inks) (j : ℕ) (from : 1 ≤ j) (to : j ≤ lut.input_inks) where
   -- the number of the other inks, and their sizes

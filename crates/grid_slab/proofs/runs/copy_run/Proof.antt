@@ -1,4 +1,4 @@
--- `slab::runs::copy_run` meets its contract: after i turns the first i entries of the run are written. Assumes nothing.
+-- `grid_slab::runs::copy_run` meets its contract: after i turns the first i entries of the run are written. Assumes nothing.
 use Prim.Native.Nat.{ℕ, ◌+◌, ◌-◌, ◌≤◌, ◌<◌}
 use mathlib.Core.Path.{◌≡◌, refl, ap, ◌∙◌}
 use mathlib.Core.List.{List}
@@ -9,8 +9,8 @@ use lib.ListN.{length, get_or, set}
 use borrow.Author.Rules.{rules}
 use Rattle.lists.specs.Buffer.{written_from}
 use Rattle.lists.proofs.Buffer.{written-from-next, length-written-from}
-use Rattle.slab.proofs.runs.copy_run.Statement.{statement}
-use Rattle.slab.proofs.runs.copy_run.Tie as tie
+use Rattle.grid_slab.proofs.runs.copy_run.Statement.{statement}
+use Rattle.grid_slab.proofs.runs.copy_run.Tie as tie
 
 abbrev invariant-loop : tie.invariant-loop
 invariant-loop table from slab₀ to count i₀ slab i = (i ≤ count) × (slab ≡ written_from to (λ i. get_or table (from + i) nan) i slab₀)

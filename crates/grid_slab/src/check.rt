@@ -1,7 +1,7 @@
 // What is refused.
 ghost use Rattle.std.specs.Prelude.{◌≡◌, not, ◌||◌, eqb};
-ghost use Rattle.slab.specs.Slab.{is_ink};
-ghost use Rattle.slab.specs.Runs.{Checked};
+ghost use Rattle.grid_slab.specs.Slab.{is_ink};
+ghost use Rattle.grid_slab.specs.Runs.{Checked};
 
 use layout::MultidimensionalLut;
 

@@ -9,9 +9,9 @@ use Rattle.outcome.specs.Outcome.{OneOutcome}
 use Rattle.outcome.proofs.Decided.{decided}
 use Rattle.lists.specs.Buffer.{left}
 use Rattle.layout.specs.Layout.{entries}
-use Rattle.slab.specs.Slab.{fewer, slab, refusal}
-use Rattle.slab.proofs.cut_slab.Kinds as cut-slab-kinds
-use Rattle.slab.proofs.cut_slab.Reads as cut-slab-reads
+use Rattle.grid_slab.specs.Slab.{fewer, slab, refusal}
+use Rattle.grid_slab.proofs.cut_slab.Kinds as cut-slab-kinds
+use Rattle.grid_slab.proofs.cut_slab.Reads as cut-slab-reads
 
 pub cut-slab-unique : OneOutcome 2 cut-slab-kinds.ps cut-slab-kinds.r cut-slab-reads.Post
 cut-slab-unique κs a x y ws vs p q =

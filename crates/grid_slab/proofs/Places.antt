@@ -14,8 +14,8 @@ use Rattle.lists.specs.Buffer.{written, written_from}
 use Rattle.lists.proofs.Buffer.{written_on}
 use Rattle.layout.specs.Order.{index, node_at}
 use Rattle.layout.proofs.Order.{node-number}
-use Rattle.slab.specs.Slab.{insert, without}
-use Rattle.slab.specs.Runs.{place_of, cut_entry}
+use Rattle.grid_slab.specs.Slab.{insert, without}
+use Rattle.grid_slab.specs.Runs.{place_of, cut_entry}
 
 -- ---- how many
 

@@ -6,7 +6,7 @@ use Rattle.outcome.specs.Outcome.{Decides}
 use Rattle.lists.specs.Lists.{product}
 use Rattle.layout.specs.declared.MultidimensionalLut.{MultidimensionalLut}
 use Rattle.layout.specs.Layout.{IsLayout, ink_sizes}
-use Rattle.slab.specs.Slab.{refusal}
+use Rattle.grid_slab.specs.Slab.{refusal}
 
 -- the entries of a run, and how often ink j turns: the inks after it with the outputs, and the inks before it
 abbrev pub run_of : MultidimensionalLut → ℕ → ℕ

@@ -16,12 +16,12 @@ use Rattle.layout.specs.Layout.{IsLayout, ink_sizes, entries}
 use Rattle.layout.proofs.Order.{entries-within, within-length}
 use Rattle.layout.proofs.Laws.{ink-count, size-of}
 use Rattle.lookup.specs.Table.{output}
-use Rattle.slab.specs.Slab.{insert, without, size_of, fewer, slab}
-use Rattle.slab.specs.Runs.{run_of, turns_of, cut_entry}
-use Rattle.slab.proofs.Without.{insert-without}
-use Rattle.slab.proofs.Fewer.{fewer-outputs, fewer-sizes}
-use Rattle.slab.proofs.Places.{product_at, product-without, entry_place}
-use Rattle.slab.proofs.Inserted.{insert-within, insert-order, without-within, table_at, table-all}
+use Rattle.grid_slab.specs.Slab.{insert, without, size_of, fewer, slab}
+use Rattle.grid_slab.specs.Runs.{run_of, turns_of, cut_entry}
+use Rattle.grid_slab.proofs.Without.{insert-without}
+use Rattle.grid_slab.proofs.Fewer.{fewer-outputs, fewer-sizes}
+use Rattle.grid_slab.proofs.Places.{product_at, product-without, entry_place}
+use Rattle.grid_slab.proofs.Inserted.{insert-within, insert-order, without-within, table_at, table-all}
 
 module _ (lut : MultidimensionalLut) (is : IsLayout lut) (two : 2 ≤ lut.input_inks) (j : ℕ) (from : 1 ≤ j) (to : j ≤ lut.input_inks) where
   -- ink j's place among coordinates that come last ink first

@@ -2,7 +2,7 @@
 mod check;
 mod runs;
 
-ghost use Rattle.slab.specs.Slab.{SlabCut};
+ghost use Rattle.grid_slab.specs.Slab.{SlabCut};
 
 use layout::MultidimensionalLut;
 

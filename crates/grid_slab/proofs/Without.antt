@@ -9,7 +9,7 @@ use native.Mathlib.Omega.{arith}
 use lib.ListN.{length, get_or}
 use Rattle.lists.specs.Lists.{every, some, last_first, product}
 use Rattle.lists.proofs.Lists.{and-true, every-head, every_rest, neither-of, last-first-same}
-use Rattle.slab.specs.Slab.{insert, without}
+use Rattle.grid_slab.specs.Slab.{insert, without}
 
 module _ {A : Type 0} where
   pub length_without : (p : ℕ) (xs : List A) → p < length xs → suc (length (without p xs)) ≡ length xs

@@ -15,7 +15,7 @@ use Rattle.lists.proofs.Lists.{get_d_tabulate}
 use Rattle.layout.specs.Order.{index, Within, node_at}
 use Rattle.layout.proofs.Order.{entries-within, index-injective, node-within, node-back}
 use Rattle.lookup.specs.Lookup.{Grid}
-use Rattle.slab.specs.Slab.{insert, without}
+use Rattle.grid_slab.specs.Slab.{insert, without}
 
 -- ---- coordinates with k put in at place p
 

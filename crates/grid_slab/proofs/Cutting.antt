@@ -19,9 +19,9 @@ use Rattle.lists.proofs.Buffer.{length-left, unwritten, written_at, written_same
 use Rattle.layout.specs.declared.MultidimensionalLut.{MultidimensionalLut}
 use Rattle.layout.specs.Layout.{limit, IsLayout, ink_sizes, entries}
 use Rattle.layout.proofs.Laws.{outputs-from, entries_fit, sizes-above, filling-after}
-use Rattle.slab.specs.Slab.{size_of, fewer, slab, is_ink, refusal, SlabCut}
-use Rattle.slab.specs.Runs.{run_of, turns_of, cut_entry, Fit, Checked}
-use Rattle.slab.proofs.Slabs.{slab-length, table-turns, slab-turns, slab-place}
+use Rattle.grid_slab.specs.Slab.{size_of, fewer, slab, is_ink, refusal, SlabCut}
+use Rattle.grid_slab.specs.Runs.{run_of, turns_of, cut_entry, Fit, Checked}
+use Rattle.grid_slab.proofs.Slabs.{slab-length, table-turns, slab-turns, slab-place}
 
 pub slab-cut-length : (lut : MultidimensionalLut) (table : List Float) (j k : ℕ) (old : List Float) (r : ℕ) (now : List Float)
     → SlabCut lut table j k old r now → length now ≡ length old

@@ -2,7 +2,7 @@
 ghost use Rattle.std.specs.Prelude.{◌≡◌, ◌+◌, ◌*◌, ◌≤◌, length, get_or};
 ghost use Rattle.std.specs.Float.{nan};
 ghost use Rattle.lists.specs.Buffer.{written, written_from};
-ghost use Rattle.slab.specs.Runs.{cut_entry, Fit};
+ghost use Rattle.grid_slab.specs.Runs.{cut_entry, Fit};
 
 // One run: `count` entries of the table from place `from` on, to the places from `to` on.
 fn copy_run(table: &[f32], from: usize, slab: &mut [f32], to: usize, count: usize)

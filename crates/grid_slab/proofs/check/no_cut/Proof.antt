@@ -1,8 +1,8 @@
--- `slab::check::no_cut` meets its contract: the tests on the way are the definition's. Assumes nothing.
+-- `grid_slab::check::no_cut` meets its contract: the tests on the way are the definition's. Assumes nothing.
 use borrow.Author.Tests.{le-leb, lt-leb}
-use Rattle.slab.specs.Slab.{is_ink}
-use Rattle.slab.proofs.check.no_cut.Statement.{statement}
-use Rattle.slab.proofs.check.no_cut.Tie as tie
+use Rattle.grid_slab.specs.Slab.{is_ink}
+use Rattle.grid_slab.proofs.check.no_cut.Statement.{statement}
+use Rattle.grid_slab.proofs.check.no_cut.Tie as tie
 
 pub no-cut-spec : {M : Type 1} → statement M
 unfolding is_ink

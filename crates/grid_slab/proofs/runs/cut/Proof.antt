@@ -1,13 +1,13 @@
--- `slab::runs::cut` meets its contract: each call is of the same run. Assumes nothing.
+-- `grid_slab::runs::cut` meets its contract: each call is of the same run. Assumes nothing.
 use Prim.Native.Nat.{ℕ, ◌*◌}
 use mathlib.Core.Path.{◌≡◌, sym, ap, ◌∙◌, subst}
 use mathlib.Core.List.{List}
 use lib.Ieee.{Float}
 use borrow.Author.Rules.{rules}
 use Rattle.lists.specs.Buffer.{written}
-use Rattle.slab.specs.Runs.{cut_entry, Fit}
-use Rattle.slab.proofs.runs.cut.Statement.{statement}
-use Rattle.slab.proofs.runs.cut.Tie as tie
+use Rattle.grid_slab.specs.Runs.{cut_entry, Fit}
+use Rattle.grid_slab.proofs.runs.cut.Statement.{statement}
+use Rattle.grid_slab.proofs.runs.cut.Tie as tie
 
 -- what a run that is n asks for, and what is written then
 fit-for : (table slab run n lines k turns : ℕ) → run ≡ n → Fit table slab run lines k turns → Fit table slab n lines k turns

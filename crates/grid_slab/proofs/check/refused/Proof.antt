@@ -1,4 +1,4 @@
--- `slab::check::refused` meets its contract: each test is the definition's, and a line's share of the whole table is the slab. Assumes nothing.
+-- `grid_slab::check::refused` meets its contract: each test is the definition's, and a line's share of the whole table is the slab. Assumes nothing.
 use Prim.Native.Nat.{ℕ, ◌-◌, ◌/◌, ◌≤◌, ◌<◌}
 use mathlib.Core.Path.{◌≡◌, sym, ap, ◌∙◌}
 use mathlib.Core.Bool.{Bool, false, cond, not, ◌||◌}
@@ -9,12 +9,12 @@ use borrow.Author.Rules.{rules}
 use borrow.Author.Tests.{not-false, lt-ltb, le-ltb}
 use Rattle.layout.specs.Layout.{IsLayout, entries}
 use Rattle.layout.proofs.Laws.{inks-to, first-filling, size-from}
-use Rattle.slab.specs.Slab.{size_of, fewer, is_ink, refusal}
-use Rattle.slab.specs.Runs.{Checked}
-use Rattle.slab.proofs.Fewer.{fewer-entries}
-use Rattle.slab.proofs.Cutting.{may-cut}
-use Rattle.slab.proofs.check.refused.Statement.{statement}
-use Rattle.slab.proofs.check.refused.Tie as tie
+use Rattle.grid_slab.specs.Slab.{size_of, fewer, is_ink, refusal}
+use Rattle.grid_slab.specs.Runs.{Checked}
+use Rattle.grid_slab.proofs.Fewer.{fewer-entries}
+use Rattle.grid_slab.proofs.Cutting.{may-cut}
+use Rattle.grid_slab.proofs.check.refused.Statement.{statement}
+use Rattle.grid_slab.proofs.check.refused.Tie as tie
 
 number : (c : tie.After-is-layout) (r : ℕ) →
     let a = c.before.args in r ≡ refusal c.is-layout.result a.lut a.table a.j a.k a.room → Checked a.lut a.table a.j a.k a.room r
