@@ -1,4 +1,5 @@
 // Pyramid, prism and trilinear: three cells in a cube of f32 entries. The meaning is in specs/Cube.antt and specs/Blends.antt.
+#![tactic(auto)]
 mod blends;
 mod places;
 mod refusals;

@@ -1,1 +1,2 @@
 // Demand 3: no code, theorems about the definition that the lookup is proved to meet.
+#![tactic(auto)]

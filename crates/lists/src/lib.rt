@@ -1,4 +1,6 @@
 // Lists by a rule, tests over a list, bytes as a number, and what a call leaves in a lent buffer: definitions and laws.
+#![tactic(auto)]
+
 ghost use Rattle.std.specs.Prelude.{◌≡◌, get_or};
 ghost use Rattle.lists.specs.Bytes.{first_sixteen};
 

@@ -1,4 +1,5 @@
 // The lookups of one to fifteen inks.
+#![tactic(auto)]
 mod place;
 mod value;
 

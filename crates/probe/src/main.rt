@@ -1,4 +1,5 @@
 // Document 01's probe: reads at most 16,384 bytes of standard input, however they arrive, and prints what a lookup on them gives.
+#![tactic(auto)]
 use libc::{STDIN_FILENO, STDOUT_FILENO};
 
 fn main() {

@@ -1,4 +1,5 @@
 // The probe on short inputs: each refusal that it can reach, and answers. What it must print is the file stdout.
+#![tactic(auto)]
 use libc::STDOUT_FILENO;
 
 fn print(input: &[u8]) {

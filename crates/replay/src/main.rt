@@ -1,4 +1,5 @@
 // Reads a list of calls, makes each with the proved crates and prints what came back. tests/vectors says how the list is written.
+#![tactic(auto)]
 mod blends;
 mod calls;
 mod cells;

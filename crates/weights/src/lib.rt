@@ -1,4 +1,5 @@
 // Weights for 8-bit codes: document 01. The rule is in specs/Rule.antt.
+#![tactic(auto)]
 mod bits;
 mod lower;
 mod upper;
