@@ -5,7 +5,7 @@ use borrow.Author.Rules.{rules}
 use Rattle.lists.proofs.byte_at.Statement.{statement}
 use Rattle.lists.proofs.byte_at.Tie as tie
 
-pub byte-at-spec : {M : Type 1} → statement M
-byte-at-spec =
+pub byte_at_spec : {M : Type 1} → statement M
+byte_at_spec =
     tie.close
-    (tie.spec (λ c. sym (get_or-eq_default c.before.args.bytes.now 0 c.if1.true)) (λ c. search rules) (λ c. search rules))
+    (tie.spec (λ c. sym (get_or-eq_default c.before.args.bytes.now 0 c.if-bytes-place.true)) (λ c. search rules) (λ c. search rules))

@@ -10,15 +10,15 @@ use Rattle.lists.proofs.Buffer.{written_next, written-whole}
 use Rattle.lists.proofs.first_16.Statement.{statement}
 use Rattle.lists.proofs.first_16.Tie as tie
 
-abbrev invariant-loop : tie.invariant-loop
+abbrev invariant-loop : tie.invariant-loop-i
 invariant-loop bytes first₀ i₀ first i = (i ≤ 16) × (first ≡ written (λ j. get_or bytes j 0) i (replicate 16 0))
 
-abbrev decreases-loop : tie.decreases-loop
+abbrev decreases-loop : tie.decreases-loop-i
 decreases-loop bytes first₀ i₀ first i = 16 - i
 
-pub first-16-spec : {M : Type 1} → statement M
+pub first_16_spec : {M : Type 1} → statement M
 unfolding written
-first-16-spec =
+first_16_spec =
     tie.close
     (tie.spec
     invariant-loop
@@ -28,11 +28,11 @@ first-16-spec =
     (λ c. omega arith)
     (λ c. search rules)
     (λ c. omega arith)
-    (λ c. let l = c.before.before.loop in
+    (λ c. let l = c.before.before.loop-i in
     let bytes = c.before.before.before.before.args.bytes.now in
     (omega arith, (λ k. set (l.invariant.1 k) l.i (c.byte_at.ensures k)) ∙ written_next (λ j. get_or bytes j 0) l.i (replicate 16 0)))
-    (λ c. let l = c.before.loop in
+    (λ c. let l = c.before.loop-i in
     let f : ℕ → ℕ = λ j. get_or c.before.before.before.args.bytes.now j 0 in
     l.invariant.1
-    ∙ ap (λ (k : ℕ). written f k (replicate 16 0)) (le_antisymm l.invariant.0 c.loop-test.false)
+    ∙ ap (λ (k : ℕ). written f k (replicate 16 0)) (le_antisymm l.invariant.0 c.loop-i-test.false)
     ∙ written-whole f 16 (replicate 16 0) 0 refl))
