@@ -1,6 +1,7 @@
 // The blending steps of the colour lookup, in IEEE 754 binary32: each sum, difference and product is
 // rounded once, in the order written. The laws about them are in `proofs/`.
 #![tactic(auto)]
+
 ghost use Rattle.std.specs.Prelude.{◌≡◌};
 ghost use Rattle.binary32.specs.Blend as Blend;
 ghost use Rattle.binary32.specs.Numbers.{unit_of};

@@ -2,19 +2,19 @@
 use Rattle.binary32.proofs.tetra.Statement.{statement}
 use Rattle.binary32.proofs.tetra.Tie as tie
 
-pub tetra-spec : {M : Type 1} → statement M
-tetra-spec =
+pub tetra_spec : {M : Type 1} → statement M
+tetra_spec =
     tie.close
     (tie.spec
     (λ c κs. tt)
-    (λ c. simp (c.three-terms.ensures, c.before.before.if1.true, c.before.if2.true))
+    (λ c. simp (c.three_terms.ensures, c.before.before.if-x-y.true, c.before.if-y-z.true))
     (λ c κs. tt)
-    (λ c. simp (c.three-terms2.ensures, c.before.before.before.if1.true, c.before.before.if2.false, c.before.if3.true))
+    (λ c. simp (c.three_terms-then-x-z.ensures, c.before.before.before.if-x-y.true, c.before.before.if-y-z.false, c.before.if-x-z.true))
     (λ c κs. tt)
-    (λ c. simp (c.three-terms3.ensures, c.before.before.before.if1.true, c.before.before.if2.false, c.before.if3.false))
+    (λ c. simp (c.three_terms-then-x-y.ensures, c.before.before.before.if-x-y.true, c.before.before.if-y-z.false, c.before.if-x-z.false))
     (λ c κs. tt)
-    (λ c. simp (c.three-terms4.ensures, c.before.before.if1.false, c.before.if4.true))
+    (λ c. simp (c.three_terms-then-x-z-2.ensures, c.before.before.if-x-y.false, c.before.if-x-z-2.true))
     (λ c κs. tt)
-    (λ c. simp (c.three-terms5.ensures, c.before.before.before.if1.false, c.before.before.if4.false, c.before.if5.true))
+    (λ c. simp (c.three_terms-then-y-z-2.ensures, c.before.before.before.if-x-y.false, c.before.before.if-x-z-2.false, c.before.if-y-z-2.true))
     (λ c κs. tt)
-    (λ c. simp (c.three-terms6.ensures, c.before.before.before.if1.false, c.before.before.if4.false, c.before.if5.false)))
+    (λ c. simp (c.three_terms-2.ensures, c.before.before.before.if-x-y.false, c.before.before.if-x-z-2.false, c.before.if-y-z-2.false)))
