@@ -1,5 +1,6 @@
 // Sizes, strides and the layout record: document 01, with a size for each ink (document 02, E5). The meaning is in specs/Layout.antt.
 #![tactic(auto)]
+
 mod places;
 mod sizes;
 

@@ -8,28 +8,28 @@ use Rattle.cell.proofs.Within.{ink-up_to}
 use Rattle.cell.proofs.ink_cell.Statement.{statement}
 use Rattle.cell.proofs.ink_cell.Tie as tie
 
-returns : tie.Need-returns
-returns c = let at = c.before.before in simp (clipped-nan at.before.args.x at.clip.result at.clip.ensures c.enum_told.given.1)
+returns : tie.Need-returns-in_default
+returns c = let at = c in simp (clipped-nan at.args.x at.clip-clipped.result at.clip-clipped.ensures c.in_default.is)
 
-product-requires : tie.Need-product-requires
+product-requires : tie.Need-product-p-requires
 product-requires c κs =
-    let at = c.before.before.before in
-    subst (UpTo 1) (sym (clipped-ink at.before.args.x at.clip.result at.clip.ensures _ c.before.clipped.given.1).1) (ink-up_to at.before.args.x)
+    let at = c in
+    subst (UpTo 1) (sym (clipped-ink at.args.x at.clip-clipped.result at.clip-clipped.ensures _ c.in-Ink.is).1) (ink-up_to at.args.x)
 
 -- the rule decides the upper node alone
 either : (b : Bool) (p : Float) (u v : ℕ) → cell_at p (cond b u v) ≡ cond b (cell_at p u) (cell_at p v)
 either true p u v = refl
 either false p u v = refl
 
-returns-2 : tie.Need-returns-2
+returns-2 : tie.Need-returns
 unfolding ink_cell cell_low cell_high product_of
 returns-2 c =
-    let read = c.before.before.before.before.before in
-    let at = read.before.before in
-    let said = clipped-ink at.before.args.x at.clip.result at.clip.ensures _ read.clipped.given.1 in
-    simp (said.0, c.cell-at.ensures, c.before.upper-node.ensures, c.before.before.before.product.ensures.0, said.1, either)
+    let read = c in
+    let at = read in
+    let said = clipped-ink at.args.x at.clip-clipped.result at.clip-clipped.ensures _ read.in-Ink.is in
+    simp (said.0, c.cell_at.ensures, c.upper_node.ensures, c.product-p.ensures.0, said.1, either)
 
-pub ink-cell-spec : {M : Type 1} → statement M
-ink-cell-spec =
+pub ink_cell_spec : {M : Type 1} → statement M
+ink_cell_spec =
     tie.close
     (tie.spec (λ c κs. search rules) (λ c. search rules) (λ c. search rules) returns product-requires (λ c κs. search rules) (λ c κs. search rules) (λ c κs. search rules) returns-2)

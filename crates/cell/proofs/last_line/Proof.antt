@@ -3,14 +3,14 @@ use Rattle.std.proofs.Common.{arith}
 use Rattle.cell.proofs.last_line.Statement.{statement}
 use Rattle.cell.proofs.last_line.Tie as tie
 
-returns : tie.Need-returns
-returns c = omega (arith, c.if1.true)
+returns : tie.Need-returns-then-g-eq0
+returns c = omega (arith, c.if-g-eq0.true)
 
-sub-result : tie.Need-overflow-sub-result
-sub-result c = omega (arith, c.if1.false)
+sub-result : tie.Need-overflow_sub-result
+sub-result c = omega (arith, c.if-g-eq0.false)
 
-returns-2 : tie.Need-returns-2
+returns-2 : tie.Need-returns
 returns-2 c = omega arith
 
-pub last-line-spec : {M : Type 1} → statement M
-last-line-spec = tie.close (tie.spec returns sub-result returns-2)
+pub last_line_spec : {M : Type 1} → statement M
+last_line_spec = tie.close (tie.spec returns sub-result returns-2)

@@ -3,11 +3,11 @@ use Rattle.std.proofs.Common.{◌∙◌, rules, le-ltb, lt-ltb}
 use Rattle.cell.proofs.upper_node.Statement.{statement}
 use Rattle.cell.proofs.upper_node.Tie as tie
 
-returns : tie.Need-returns
-returns c = c.round_up.ensures ∙ simp (lt-ltb _ _ c.before.if1.true)
+returns : tie.Need-returns-then-i-lt4
+returns c = c.round_up.ensures ∙ simp (lt-ltb _ _ c.if-i-lt4.true)
 
-returns-2 : tie.Need-returns-2
-returns-2 c = c.next-node.ensures ∙ simp (le-ltb _ _ c.before.if1.false, c.before.before.requires.1)
+returns-2 : tie.Need-returns
+returns-2 c = c.next_node.ensures ∙ simp (le-ltb _ _ c.if-i-lt4.false, c.requires.1)
 
-pub upper-node-spec : {M : Type 1} → statement M
-upper-node-spec = tie.close (tie.spec (λ c κs. search rules) returns (λ c κs. search rules) returns-2)
+pub upper_node_spec : {M : Type 1} → statement M
+upper_node_spec = tie.close (tie.spec (λ c κs. search rules) returns (λ c κs. search rules) returns-2)

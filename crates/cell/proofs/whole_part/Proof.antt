@@ -15,36 +15,36 @@ no_nan nan h = h
 no_nan (inf s) h = tt
 no_nan (fin s m e) h = tt
 
-float-to-bits-b : tie.Need-float-to-bits-b
+float-to-bits-b : tie.Need-float_to_bits-b
 float-to-bits-b c = no_nan c.args.p c.requires
 
-wrapping-sub-u32-requires : tie.Need-wrapping-sub-u32-requires
+wrapping-sub-u32-requires : tie.Need-wrapping_sub_u32-behind-requires
 wrapping-sub-u32-requires c κs = search rules
 
 -- the difference does not wrap
-is-behind : (c : tie.After-wrapping-sub-u32) → c.wrapping-sub-u32.result ≡ behind (to_bits binary32 c.before.args.p)
+is-behind : (c : tie.After-wrapping_sub_u32-behind) → c.wrapping_sub_u32-behind.result ≡ behind (to_bits binary32 c.args.p)
 is-behind c =
-    let word : c.wrapping-sub-u32.result < 2 ^ 32 = c.wrapping-sub-u32.type-inv in
-    omega (arith, c.wrapping-sub-u32.ensures, exponent-le c.before.args.p c.before.requires)
+    let word : c.wrapping_sub_u32-behind.result < 2 ^ 32 = c.wrapping_sub_u32-behind.type_inv in
+    omega (arith, c.wrapping_sub_u32-behind.ensures, exponent-le c.args.p c.requires)
 
 -- what is left of the digits
-is_whole : (c : tie.After-wrapping-sub-u32) → digits (to_bits binary32 c.before.args.p) / 2 ^ c.wrapping-sub-u32.result ≡ whole_of c.before.args.p
-is_whole c = let b = to_bits binary32 c.before.args.p in ap (λ (k : ℕ). digits b / 2 ^ k) (is-behind c) ∙ whole-digits c.before.args.p c.before.requires
+is_whole : (c : tie.After-wrapping_sub_u32-behind) → digits (to_bits binary32 c.args.p) / 2 ^ c.wrapping_sub_u32-behind.result ≡ whole_of c.args.p
+is_whole c = let b = to_bits binary32 c.args.p in ap (λ (k : ℕ). digits b / 2 ^ k) (is-behind c) ∙ whole-digits c.args.p c.requires
 
-returns : tie.Need-returns
-returns c = let at = c.before in sym (none_left (to_bits binary32 at.before.args.p) at.wrapping-sub-u32.result (omega (arith, c.if1.true))) ∙ is_whole at
+returns : tie.Need-returns-then-behind-gt23
+returns c = let at = c in sym (none_left (to_bits binary32 at.args.p) at.wrapping_sub_u32-behind.result (omega (arith, c.if-behind-gt23.true))) ∙ is_whole c.before
 
-add-result : tie.Need-overflow-add-result
+add-result : tie.Need-overflow_add-result
 add-result c = search rules
 
-shr-result : tie.Need-overflow-shr-result
-shr-result c = omega (arith, c.if1.false)
+shr-result : tie.Need-overflow_shr-result
+shr-result c = omega (arith, c.if-behind-gt23.false)
 
-cast-result : tie.Need-overflow-cast-result
-cast-result c = Fits-div (2 ^ c.before.wrapping-sub-u32.result) (record { fits = omega arith })
+cast-result : tie.Need-overflow_cast-result
+cast-result c = Fits-div (2 ^ c.wrapping_sub_u32-behind.result) (record { fits = omega arith })
 
-returns-2 : tie.Need-returns-2
+returns-2 : tie.Need-returns
 returns-2 c = is_whole c.before
 
-pub whole-part-spec : {M : Type 1} → statement M
-whole-part-spec = tie.close (tie.spec float-to-bits-b wrapping-sub-u32-requires returns add-result shr-result cast-result returns-2)
+pub whole_part_spec : {M : Type 1} → statement M
+whole_part_spec = tie.close (tie.spec float-to-bits-b wrapping-sub-u32-requires returns add-result shr-result cast-result returns-2)

@@ -10,17 +10,17 @@ use Rattle.layout.proofs.Rows.{tested-layout, counts-few, row-fills, filling-row
 use Rattle.layout.proofs.filling_sizes.Statement.{statement}
 use Rattle.layout.proofs.filling_sizes.Tie as tie
 
-refused : tie.Need-returns
+refused : tie.Need-returns-then-refusal-ne0
 refused c =
-    let number = c.before.refusal-of.ensures.number in
-    record { number = number; row = kept _ _ _ c.if1.true number; laid = λ none. absurd (c.if1.true none) }
+    let number = c.refusal_of-refusal.ensures.number in
+    record { number = number; row = kept _ _ _ c.if-refusal-ne0.true number; laid = λ none. absurd (c.if-refusal-ne0.true none) }
 
-passed : (c : tie.Else1) → let args = c.before.before.args in Tested args.sizes.now args.n args.m 0
+passed : (c : tie.Else-refusal-ne0) → let args = c.args in Tested args.sizes.now args.n args.m 0
 passed c =
-    let args = c.before.before.args in
-    subst (Tested args.sizes.now args.n args.m) c.if1.false c.before.refusal-of.ensures
+    let args = c.args in
+    subst (Tested args.sizes.now args.n args.m) c.if-refusal-ne0.false c.refusal_of-refusal.ensures
 
-filled : tie.Need-returns-2
+filled : tie.Need-returns
 filled c =
     let tested = passed c.before.before in
     record {
@@ -29,8 +29,8 @@ filled c =
       laid = λ none. tested-layout _ _ _ tested;
     }
 
-pub filling-sizes-spec : {M : Type 1} → statement M
-filling-sizes-spec =
+pub filling_sizes_spec : {M : Type 1} → statement M
+filling_sizes_spec =
     tie.close
     (tie.spec
     (λ c κs. search rules)

@@ -24,36 +24,36 @@ arrays : (c : tie.Start) → Arrays c.args.lut
 arrays c =
     record { strides = search rules; filling = search rules; scale = search rules; sizes = search rules; bytes = are-bytes c.args.lut.grid_sizes (size_fits c) }
 
-n-counts : (c : tie.Else1) → is_count c.before.before.args.lut.input_inks ≡ true
-n-counts c = sym c.before.is-count.ensures ∙ not-false _ c.if1.false
+n-counts : (c : tie.Else-not-is_count) → is_count c.args.lut.input_inks ≡ true
+n-counts c = sym c.is_count.ensures ∙ c.if-not-is_count.false
 
-m-counts : (c : tie.Else2) → is_count c.before.before.before.before.args.lut.output_inks ≡ true
-m-counts c = sym c.before.is-count2.ensures ∙ not-false _ c.if2.false
+m-counts : (c : tie.Else-not-is_count-2) → is_count c.args.lut.output_inks ≡ true
+m-counts c = sym c.is_count-2.ensures ∙ c.if-not-is_count-2.false
 
-counted : (c : tie.Else2) → (c.before.before.before.before.args.lut.input_inks ≤ 15) × (c.before.before.before.before.args.lut.output_inks ≤ 15)
+counted : (c : tie.Else-not-is_count-2) → (c.args.lut.input_inks ≤ 15) × (c.args.lut.output_inks ≤ 15)
 counted c = (count-to _ (n-counts c.before.before), count-to _ (m-counts c))
 
-answer : tie.Need-returns-4
+answer : tie.Need-returns
 answer c =
-    let used = c.before.before in
-    let else2 = used.before.before.before.before.before in
-    let start = else2.before.before.before.before in
+    let used = c in
+    let else2 = c in
+    let start = c in
     let lut = start.args.lut in
-    let tested = used.used.ensures.holds (not-false _ c.before.if3.false) in
+    let tested = used.used.ensures.holds c.if-not-used.false in
     record {
-      holds = λ e. layout_of lut (facts-are lut (arrays start) (n-counts else2.before.before) (m-counts else2) tested.1 tested.0 (c.unused.ensures.holds e));
+      holds = λ e. layout_of lut (facts-are lut (arrays c.before.before.before.before.before.before.before.before.before.before.before) (n-counts c.before.before.before.before.before.before.before.before.before) (m-counts c.before.before.before.before.before.before.before) tested.1 tested.0 (c.unused.ensures.holds e));
       found = λ is. c.unused.ensures.found (unused-at lut (facts-of lut is));
     }
 
-pub is-layout-spec : {M : Type 1} → statement M
-is-layout-spec =
+pub is_layout_spec : {M : Type 1} → statement M
+is_layout_spec =
     tie.close
     (tie.spec
     (λ c κs. search rules)
-    (λ c. refuses (λ is. not-both _ c.if1.true (c.before.is-count.ensures ∙ (facts-of _ is).accepted.n-counts)))
+    (λ c. refuses (λ is. not-both _ c.if-not-is_count.true (c.is_count.ensures ∙ (facts-of _ is).accepted.n-counts)))
     (λ c κs. search rules)
-    (λ c. refuses (λ is. not-both _ c.if2.true (c.before.is-count2.ensures ∙ (facts-of _ is).accepted.m-counts)))
-    (λ c κs. let else2 = c.before.before.before.before in (omega (arith, (counted else2).0), (counted else2).1))
-    (λ c. refuses (λ is. let facts = facts-of _ is in not-both _ c.if3.true (c.before.used.ensures.found (used-at _ facts, facts.accepted.within))))
+    (λ c. refuses (λ is. not-both _ c.if-not-is_count-2.true (c.is_count-2.ensures ∙ (facts-of _ is).accepted.m-counts)))
+    (λ c κs. let else2 = c in (omega (arith, (counted c.before.before.before.before).0), (counted c.before.before.before.before).1))
+    (λ c. refuses (λ is. let facts = facts-of _ is in not-both _ c.if-not-used.true (c.used.ensures.found (used-at _ facts, facts.accepted.within))))
     (λ c κs. omega (arith, (counted c.before.before.before.before.before.before).0))
     answer)

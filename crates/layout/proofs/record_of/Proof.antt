@@ -6,15 +6,15 @@ use Rattle.layout.proofs.Rows.{counts-few, outputs-from, row-fills, record_is}
 use Rattle.layout.proofs.record_of.Statement.{statement}
 use Rattle.layout.proofs.record_of.Tie as tie
 
-pub record-of-spec : {M : Type 1} → statement M
-record-of-spec =
+pub record_of_spec : {M : Type 1} → statement M
+record_of_spec =
     tie.close
     (tie.spec
-    (λ c κs. row-fills _ _ _ c.before.requires 1 (outputs-from _ _ _ c.before.requires))
-    (λ c. omega (arith, counts-few _ _ _ c.before.before.before.requires))
-    (λ c κs. row-fills _ _ _ c.before.before.before.requires _ (le_refl _))
-    (λ c κs. let start = c.before.before.before.before.before.before in row-fills _ _ _ start.requires 1 (outputs-from _ _ _ start.requires))
+    (λ c κs. row-fills _ _ _ c.requires 1 (outputs-from _ _ _ c.requires))
+    (λ c. omega (arith, counts-few _ _ _ c.requires))
+    (λ c κs. row-fills _ _ _ c.requires _ (le_refl _))
+    (λ c κs. let start = c in row-fills _ _ _ start.requires 1 (outputs-from _ _ _ start.requires))
     (λ c.
-    let filled2 = c.before.before.before in
-    let filled1 = filled2.before.before in
-    record_is _ _ _ filled1.before.before.requires _ _ _ _ filled1.fill.ensures filled2.fill2.ensures c.fill-own.ensures.0 c.fill-own.ensures.1))
+    let filled2 = c in
+    let filled1 = filled2 in
+    record_is _ _ _ filled1.requires _ _ _ _ filled1.fill.ensures filled2.fill-2.ensures c.fill_own.ensures.0 c.fill_own.ensures.1))

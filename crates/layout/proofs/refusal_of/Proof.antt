@@ -28,93 +28,93 @@ refusal-or false k rest = refl
 
 -- ---- what each test that was passed says
 
-n-counts : (c : tie.Else1) → is_count c.before.before.before.before.args.n ≡ true
-n-counts c = sym c.before.is-count.ensures ∙ not-false _ c.if1.false
+n-counts : (c : tie.Else-not-is_count) → is_count c.args.n ≡ true
+n-counts c = sym c.is_count.ensures ∙ c.if-not-is_count.false
 
-m-counts : (c : tie.Else2) → is_count c.before.before.before.before.before.before.args.m ≡ true
-m-counts c = sym c.before.is-count2.ensures ∙ not-false _ c.if2.false
+m-counts : (c : tie.Else-not-is_count-2) → is_count c.args.m ≡ true
+m-counts c = sym c.is_count-2.ensures ∙ c.if-not-is_count-2.false
 
 -- ---- what the total tells, cut to one above the limit
 
-module _ (c : tie.After-capped) where
+module _ (c : tie.After-capped-total) where
   abbrev used : List ℕ
-  used = let args = c.before.before.before.before.before.before.before.args in take args.n args.sizes.now
+  used = let args = c.args in take args.n args.sizes.now
 
   abbrev m : ℕ
-  m = c.before.before.before.before.before.before.before.args.m
+  m = c.args.m
 
   abbrev all : ℕ
   all = total used m
 
   -- some size is 0
-  none : c.capped.result ≡ 0 → every (ltb 0) used ≡ false
+  none : c.capped-total.result ≡ 0 → every (ltb 0) used ≡ false
   none e = go (every (ltb 0) used) refl
     where
       go : (b : Bool) → every (ltb 0) used ≡ b → b ≡ false
-      go true above = absurd (omega (arith, e, c.capped.ensures, mul-pos (product-pos used above) (count-from m (m-counts c.before))))
+      go true above = absurd (omega (arith, e, c.capped-total.ensures, mul-pos (product-pos used above) (count-from m (m-counts c.before))))
       go false above = refl
 
   -- no size is
-  some : (c.capped.result ≡ 0 → ⊥) → every (ltb 0) used ≡ true
+  some : (c.capped-total.result ≡ 0 → ⊥) → every (ltb 0) used ≡ true
   some ne =
-      let more : 0 < all = omega (arith, pos_of_ne-zero ne, c.capped.ensures, min-le_left all (limit + 1)) in
+      let more : 0 < all = omega (arith, pos_of_ne-zero ne, c.capped-total.ensures, min-le_left all (limit + 1)) in
       product-some used (first_pos (product used) m more)
 
-  above-limit : limit < c.capped.result → ltb limit all ≡ true
-  above-limit h = lt-ltb limit all (omega (arith, c.capped.ensures, min-le_left all (limit + 1)))
+  above-limit : limit < c.capped-total.result → ltb limit all ≡ true
+  above-limit h = lt-ltb limit all (omega (arith, c.capped-total.ensures, min-le_left all (limit + 1)))
 
   -- a number cut to one above the limit is within the limit where the number is
-  within-limit : c.capped.result ≤ limit → ltb limit all ≡ false
+  within-limit : c.capped-total.result ≤ limit → ltb limit all ≡ false
   within-limit h =
       le-ltb limit all (elim (dec_le all limit) [
         | yes low ↦ low
-        | no high ↦ let cut = min-eq_right {n = limit + 1} {m = all} (omega arith) in omega (arith, c.capped.ensures)
+        | no high ↦ let cut = min-eq_right {n = limit + 1} {m = all} (omega arith) in omega (arith, c.capped-total.ensures)
       ])
 
 -- ---- each return
 
-refused-1 : tie.Need-returns
+refused-1 : tie.Need-returns-then-not-is_count
 unfolding laid_of laid_using refused_by
 refused-1 c =
-    let fails : is_count c.before.before.before.before.args.n ≡ false = sym c.before.is-count.ensures ∙ not-true _ c.if1.true in
-    record { known = c.before.before.sixteen.ensures; number = sym (simp fails) }
+    let fails : is_count c.args.n ≡ false = sym c.is_count.ensures ∙ c.if-not-is_count.true in
+    record { known = c.sixteen.ensures; number = sym (simp fails) }
 
-refused-2 : tie.Need-returns-2
+refused-2 : tie.Need-returns-then-not-is_count-2
 unfolding laid_of laid_using refused_by
 refused-2 c =
-    let at = c.before.before in
-    let fails : is_count at.before.before.before.before.args.m ≡ false = sym c.before.is-count2.ensures ∙ not-true _ c.if2.true in
-    record { known = at.before.before.sixteen.ensures; number = sym (simp (n-counts at, fails)) }
+    let at = c in
+    let fails : is_count at.args.m ≡ false = sym c.is_count-2.ensures ∙ c.if-not-is_count-2.true in
+    record { known = at.sixteen.ensures; number = sym (simp (n-counts c.before.before, fails)) }
 
-refused-3 : tie.Need-returns-3
+refused-3 : tie.Need-returns-then-total-eq0
 unfolding laid_of laid_using refused_by
 refused-3 c =
-    let at = c.before.before in
-    record { known = at.before.before.before.before.sixteen.ensures; number = sym (simp (n-counts at.before.before, m-counts at, none c.before c.if3.true)) }
+    let at = c in
+    record { known = at.sixteen.ensures; number = sym (simp (n-counts c.before.before.before.before, m-counts c.before.before, none c.before c.if-total-eq0.true)) }
 
 -- with every test before it passed, the number is the last test's
-by_last : (c : tie.Else3) (r : ℕ) → cond (ltb limit (all c.before)) 5 0 ≡ r →
-    let args = c.before.before.before.before.before.before.before.before.args in
+by_last : (c : tie.Else-total-eq0) (r : ℕ) → cond (ltb limit (all c.before)) 5 0 ≡ r →
+    let args = c.args in
     Tested args.sizes.now args.n args.m r
 unfolding laid_of laid_using
 by_last c r e =
-    let at = c.before.before in
+    let at = c in
     record {
-      known = at.before.before.before.before.sixteen.ensures;
+      known = at.sixteen.ensures;
       number =
           sym
-          (simp (n-counts at.before.before, m-counts at, some c.before c.if3.false)
+          (simp (n-counts c.before.before.before.before, m-counts c.before.before, some c.before c.if-total-eq0.false)
           (refusal-or (ltb limit (all c.before)) 5 _ ∙ e));
     }
 
-refused-5 : tie.Need-returns-4
-refused-5 c = by_last c.before 5 (ap (λ (b : Bool). cond b 5 0) (above-limit c.before.before c.if4.true))
+refused-5 : tie.Need-returns-then-total-gt-LIMIT
+refused-5 c = by_last c.before 5 (ap (λ (b : Bool). cond b 5 0) (above-limit c.before.before c.if-total-gt-LIMIT.true))
 
-accepted : tie.Need-returns-5
-accepted c = by_last c.before 0 (ap (λ (b : Bool). cond b 5 0) (within-limit c.before.before c.if4.false))
+accepted : tie.Need-returns
+accepted c = by_last c.before 0 (ap (λ (b : Bool). cond b 5 0) (within-limit c.before.before c.if-total-gt-LIMIT.false))
 
-pub refusal-of-spec : {M : Type 1} → statement M
-refusal-of-spec =
+pub refusal_of_spec : {M : Type 1} → statement M
+refusal_of_spec =
     tie.close
     (tie.spec
     (λ c κs. search rules)
@@ -124,7 +124,7 @@ refusal-of-spec =
     refused-2
     (λ c κs. (
       omega (arith, count-to _ (n-counts c.before.before)),
-      c.before.before.before.before.sixteen.ensures,
+      c.sixteen.ensures,
       omega (arith, count-to _ (m-counts c)),
     ))
     refused-3

@@ -24,20 +24,20 @@ bits-tell : (a b : Float) → fits binary32 a ≡ true → fits binary32 b ≡ t
 bits-tell a b fa fb e =
     sym (of_bits-to_bits binary32 a (subst T (sym fa) tt)) ∙ ap (of_bits binary32) e ∙ of_bits-to_bits binary32 b (subst T (sym fb) tt)
 
-first-is-nan : tie.Need-returns
+first-is-nan : tie.Need-returns-then-a
 first-is-nan c =
-    ((λ e. cc), (λ e number. absurd (number (sym e ∙ is-nan c.before.args.a c.if1.true))))
+    ((λ e. cc), (λ e number. absurd (number (sym e ∙ is-nan c.args.a c.if-a.true))))
 
-second-is-nan : tie.Need-returns-2
-second-is-nan c = ((λ e. cc), (λ e number. absurd (number (is-nan c.before.before.args.b c.if2.true))))
+second-is-nan : tie.Need-returns-then-b
+second-is-nan c = ((λ e. cc), (λ e number. absurd (number (is-nan c.args.b c.if-b.true))))
 
-compared : tie.Need-returns-3
+compared : tie.Need-returns
 compared c =
-    let start = c.before.before in
-    ((λ e. bits-tell start.args.a start.args.b start.well-formed.0.1 start.well-formed.1.0.1 (eqb-true _ _ e)), (λ e number. eq-eqb _ _ (ap (to_bits binary32) e)))
+    let start = c in
+    ((λ e. bits-tell start.args.a start.args.b start.well_formed.0.1 start.well_formed.1.0.1 (eqb-true _ _ e)), (λ e number. eq-eqb _ _ (ap (to_bits binary32) e)))
 
-pub same-bits-spec : {M : Type 1} → statement M
-same-bits-spec =
+pub same_bits_spec : {M : Type 1} → statement M
+same_bits_spec =
     tie.close
     (tie.spec
     first-is-nan

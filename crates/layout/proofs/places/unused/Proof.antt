@@ -14,10 +14,10 @@ use Rattle.layout.proofs.Parts.{zero-is-number}
 use Rattle.layout.proofs.places.unused.Statement.{statement}
 use Rattle.layout.proofs.places.unused.Tie as tie
 
-abbrev invariant-loop : tie.invariant-loop
+abbrev invariant-loop : tie.invariant-loop-i
 invariant-loop n strides filling scale sizes i₀ i = (n ≤ i) × (i ≤ 16) × ((k : ℕ) → k < i → n ≤ k → UnusedAt strides filling scale sizes k)
 
-abbrev decreases-loop : tie.decreases-loop
+abbrev decreases-loop : tie.decreases-loop-i
 decreases-loop n strides filling scale sizes i₀ i = 16 - i
 
 -- place i of sixteen
@@ -29,26 +29,26 @@ record Place (i : ℕ) : Type 0 where
 place_at : (i : ℕ) → i < 16 → Place i
 place_at i inside = omega arith
 
-module _ (c : tie.In-loop invariant-loop decreases-loop) where
-  inside : c.before.loop.i < 16
-  inside = c.loop-test.true
+module _ (c : tie.In-loop-i invariant-loop decreases-loop) where
+  inside : c.loop-i.i < 16
+  inside = c.loop-i-test.true
 
-  unused : c.before.before.args.n ≤ c.before.loop.i
-  unused = c.before.loop.invariant.0
+  unused : c.args.n ≤ c.loop-i.i
+  unused = c.loop-i.invariant.0
 
-  place : Place c.before.loop.i
+  place : Place c.loop-i.i
   place = place_at _ inside
 
-one-place-more : tie.Need-loop-preserved invariant-loop decreases-loop
+one-place-more : tie.Need-loop-i-preserved invariant-loop decreases-loop
 unfolding of_bits
 one-place-more c =
-    let else3 = c.before in
-    let else2 = else3.before.before in
-    let else1 = else2.before in
-    let zero = else3.before.same-bits.ensures.0 (not-false _ else3.if3.false) in (
-      le_trans (unused else1.before) (le-add_right _ 1),
-      omega (arith, inside else1.before),
-      below_more _ _ else1.before.before.loop.invariant.2 (λ l. record { stride-is = else1.if1.false; filling-is = else2.if2.false; scale-is = zero; size_is = c.if4.false }),
+    let else3 = c in
+    let else2 = c in
+    let else1 = c in
+    let zero = else3.same_bits.ensures.0 else3.if-not-same_bits.false in (
+      le_trans (unused c.before.before.before.before.before) (le-add_right _ 1),
+      omega (arith, inside c.before.before.before.before.before),
+      below_more _ _ else1.loop-i.invariant.2 (λ l. record { stride-is = else1.if-strides-i-ne1.false; filling-is = else2.if-filling-i-ne1.false; scale-is = zero; size_is = c.if-sizes-i-ne0.false }),
     )
 
 pub unused_spec : {M : Type 1} → statement M
@@ -59,19 +59,19 @@ unused_spec =
     invariant-loop
     decreases-loop
     (λ c. (le_refl _, c.requires, (λ k h l. absurd (omega (arith, h, l)))))
-    (λ c. (place c).bytes)
-    (λ c. inside c)
-    (λ c. refuses (λ all. c.if1.true (all _ (inside c.before) (unused c.before)).stride-is))
+    (λ c. (place_at _ c.loop-i-test.true).bytes)
+    (λ c. c.loop-i-test.true)
+    (λ c. refuses (λ all. c.if-strides-i-ne1.true (all _ (inside c.before) (unused c.before)).stride-is))
     (λ c. (place c.before).bytes)
     (λ c. inside c.before)
-    (λ c. refuses (λ all. c.if2.true (all _ (inside c.before.before) (unused c.before.before)).filling-is))
+    (λ c. refuses (λ all. c.if-filling-i-ne1.true (all _ (inside c.before.before) (unused c.before.before)).filling-is))
     (λ c. (place c.before.before).bytes)
     (λ c. inside c.before.before)
     (λ c κs. tt)
-    (λ c. refuses (λ all. not-both _ c.if3.true (c.before.same-bits.ensures.1 (all _ (inside c.before.before.before.before) (unused c.before.before.before.before)).scale-is zero-is-number)))
+    (λ c. refuses (λ all. not-both _ c.if-not-same_bits.true (c.same_bits.ensures.1 (all _ (inside c.before.before.before.before) (unused c.before.before.before.before)).scale-is zero-is-number)))
     (λ c. inside c.before.before.before.before)
-    (λ c. refuses (λ all. c.if4.true (all _ (inside c.before.before.before.before.before) (unused c.before.before.before.before.before)).size_is))
+    (λ c. refuses (λ all. c.if-sizes-i-ne0.true (all _ (inside c.before.before.before.before.before) (unused c.before.before.before.before.before)).size_is))
     (λ c. (place c.before.before.before.before.before).next)
     (λ c. (place c.before.before.before.before.before).fewer)
     one-place-more
-    (λ c. accepts (λ i h l. c.before.loop.invariant.2 i (omega arith) l)))
+    (λ c. accepts (λ i h l. c.loop-i.invariant.2 i (omega arith) l)))

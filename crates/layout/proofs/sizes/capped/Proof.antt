@@ -30,53 +30,53 @@ cut_step c a (suc e) =
           rw (min-eq_right above) (min-eq_right grows ∙ sym (min-eq_right more))
     ]
 
-abbrev invariant-loop : tie.invariant-loop
+abbrev invariant-loop : tie.invariant-loop-i
 invariant-loop sizes n m t₀ i₀ t i = (i ≤ n) × (t ≡ min (product (take i sizes) * m) (limit + 1))
 
-abbrev decreases-loop : tie.decreases-loop
+abbrev decreases-loop : tie.decreases-loop-i
 decreases-loop sizes n m t₀ i₀ t i = n - i
 
 -- the size that is read is a byte
-byte : (c : tie.In-loop invariant-loop decreases-loop) → get_or c.before.before.args.sizes.now c.before.loop.i 0 < 256
-byte c = bytes-at c.before.before.args.sizes.now c.before.before.requires.1.bytes c.before.loop.i
+byte : (c : tie.In-loop-i invariant-loop decreases-loop) → get_or c.args.sizes.now c.loop-i.i 0 < 256
+byte c = bytes-at c.args.sizes.now c.requires.1.bytes c.loop-i.i
 
-product-fits : tie.Need-overflow-mul-t invariant-loop decreases-loop
+product-fits : tie.Need-overflow_mul-t invariant-loop decreases-loop
 product-fits c =
-    let at = c.before.before in
-    let cut = min-le_right (product (take at.loop.i at.before.args.sizes.now) * at.before.args.m) (limit + 1) in
-    Fits-le (mul-le-mul {n₂ = limit + 1} {m₂ = 255} (omega (arith, cut)) (omega (arith, byte c.before))) (Fits-lit tt)
+    let at = c in
+    let cut = min-le_right (product (take at.loop-i.i at.args.sizes.now) * at.args.m) (limit + 1) in
+    Fits-le (mul-le-mul {n₂ = limit + 1} {m₂ = 255} (omega (arith, cut)) (omega (arith, byte c.before.before))) (Fits-lit tt)
 
-one-size-more : tie.Need-loop-preserved invariant-loop decreases-loop
+one-size-more : tie.Need-loop-i-preserved invariant-loop decreases-loop
 one-size-more c =
-    let at = c.before.before.before in
-    let m = at.before.args.m in
-    let sizes = at.before.args.sizes.now in
-    let i = at.loop.i in
-    let t = at.loop.t in
+    let at = c in
+    let m = at.args.m in
+    let sizes = at.args.sizes.now in
+    let i = at.loop-i.i in
+    let t = at.loop-i.t in
     let p = product (take i sizes) in
     let e = get_or sizes i 0 in
     let next : product (take (i + 1) sizes) * m ≡ p * m * e = rw (add-one, product-take-suc sizes i (omega arith)) (mul_right_comm p e m) in
     let step : min (t * e) (limit + 1) ≡ min (product (take (i + 1) sizes) * m) (limit + 1) =
-    ap (λ (x : ℕ). min (x * e) (limit + 1)) at.loop.invariant.1 ∙ cut_step (limit + 1) (p * m) e ∙ ap (λ (x : ℕ). min x (limit + 1)) (sym next) in (
+    ap (λ (x : ℕ). min (x * e) (limit + 1)) at.loop-i.invariant.1 ∙ cut_step (limit + 1) (p * m) e ∙ ap (λ (x : ℕ). min x (limit + 1)) (sym next) in (
       search rules,
-      ⊎_elim (λ w. w.1 ∙ sym (min-eq_right w.0.taken) ∙ step) (λ w. w.1 ∙ sym (min-eq_left (le_trans w.0.left (lit≤ tt))) ∙ step) c.if1.branch,
+      elim c.if-t-gt-LIMIT.branch [ tie.then-t-gt-LIMIT w ↦ w.t-is ∙ sym (min-eq_right ?) ∙ step | tie.else-t-gt-LIMIT w ↦ w.t-is ∙ sym (min-eq_left (le_trans ? (lit≤ tt))) ∙ step ],
     )
 
 all-sizes : tie.Need-returns invariant-loop decreases-loop
 all-sizes c =
-    let i-is-n : c.before.loop.i ≡ c.before.before.args.n = omega arith in
-    c.before.loop.invariant.1 ∙ ap (λ (k : ℕ). min (product (take k c.before.before.args.sizes.now) * c.before.before.args.m) (limit + 1)) i-is-n
+    let i-is-n : c.loop-i.i ≡ c.args.n = omega arith in
+    c.loop-i.invariant.1 ∙ ap (λ (k : ℕ). min (product (take k c.args.sizes.now) * c.args.m) (limit + 1)) i-is-n
 
-pub capped-spec : {M : Type 1} → statement M
+pub capped_spec : {M : Type 1} → statement M
 unfolding product
-capped-spec =
+capped_spec =
     tie.close
     (tie.spec
     invariant-loop
     decreases-loop
     (λ c. (search rules, sym (ap (λ (x : ℕ). min x (limit + 1)) (one-mul c.args.m) ∙ min-eq_left (omega arith))))
     (λ c. search rules)
-    (λ c. omega (arith, byte c.before))
+    (λ c. omega (arith, byte c.before.before))
     product-fits
     (λ c. search rules)
     (λ c. search rules)

@@ -13,5 +13,5 @@ use Rattle.layout.proofs.sizes.sixteen.Tie as tie
 byte : (c : tie.Start) (i : ℕ) → get_or c.args.sizes i 0 < 256
 byte c i = let fits : Fits w8 (get_or c.args.sizes i 0) = search rules in omega arith
 
-pub sixteen-spec : {M : Type 1} → statement M
-sixteen-spec = tie.close (tie.spec (λ c. record { sixteen = omega arith; bytes = are-bytes c.args.sizes (byte c) }))
+pub sixteen_spec : {M : Type 1} → statement M
+sixteen_spec = tie.close (tie.spec (λ c. record { sixteen = omega arith; bytes = are-bytes c.args.sizes (byte c) }))
