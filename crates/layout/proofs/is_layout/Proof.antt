@@ -1,8 +1,8 @@
 -- `layout::is_layout` meets its contract: each test is a part of what the record of an accepted layout is.
 -- Assumes nothing.
 use Prim.Native.Nat.{ℕ, ◌≤◌, ◌<◌}
-use mathlib.Core.Path.{◌≡◌, sym, ◌∙◌}
-use mathlib.Core.Bool.{true}
+use mathlib.Core.Path.{◌≡◌, sym, ◌∙◌, ap}
+use mathlib.Core.Bool.{true, not}
 use native.Mathlib.Omega.{arith}
 use lib.ListN.{get_or}
 use mir.Syntax.{w8}
@@ -50,10 +50,10 @@ is_layout_spec =
     tie.close
     (tie.spec
     (λ c κs. search rules)
-    (λ c. refuses (λ is. not-both _ c.if-not-is_count.true (c.is_count.ensures ∙ (facts-of _ is).accepted.n-counts)))
+    (λ c. refuses (λ is. not-both _ (ap not c.if-not-is_count.true) (c.is_count.ensures ∙ (facts-of _ is).accepted.n-counts)))
     (λ c κs. search rules)
-    (λ c. refuses (λ is. not-both _ c.if-not-is_count-2.true (c.is_count-2.ensures ∙ (facts-of _ is).accepted.m-counts)))
+    (λ c. refuses (λ is. not-both _ (ap not c.if-not-is_count-2.true) (c.is_count-2.ensures ∙ (facts-of _ is).accepted.m-counts)))
     (λ c κs. let else2 = c in (omega (arith, (counted c.before.before.before.before).0), (counted c.before.before.before.before).1))
-    (λ c. refuses (λ is. let facts = facts-of _ is in not-both _ c.if-not-used.true (c.used.ensures.found (used-at _ facts, facts.accepted.within))))
+    (λ c. refuses (λ is. let facts = facts-of _ is in not-both _ (ap not c.if-not-used.true) (c.used.ensures.found (used-at _ facts, facts.accepted.within))))
     (λ c κs. omega (arith, (counted c.before.before.before.before.before.before).0))
     answer)

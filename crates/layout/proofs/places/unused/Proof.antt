@@ -1,5 +1,7 @@
 -- `layout::places::unused` meets its contract: every place passed holds 1, 1, +0.0 and the size 0.
 -- Assumes nothing.
+use mathlib.Core.Bool.{not}
+use mathlib.Core.Path.{ap}
 use Prim.Native.Nat.{ℕ, ◌+◌, ◌-◌, ◌*◌, ◌≤◌, ◌<◌}
 use native.Mathlib.Nat.{le_refl, le_trans, le-add_right}
 use native.Mathlib.Omega.{arith}
@@ -68,7 +70,7 @@ unused_spec =
     (λ c. (place c.before.before).bytes)
     (λ c. inside c.before.before)
     (λ c κs. tt)
-    (λ c. refuses (λ all. not-both _ c.if-not-same_bits.true (c.same_bits.ensures.1 (all _ (inside c.before.before.before.before) (unused c.before.before.before.before)).scale-is zero-is-number)))
+    (λ c. refuses (λ all. not-both _ (ap not c.if-not-same_bits.true) (c.same_bits.ensures.1 (all _ (inside c.before.before.before.before) (unused c.before.before.before.before)).scale-is zero-is-number)))
     (λ c. inside c.before.before.before.before)
     (λ c. refuses (λ all. c.if-sizes-i-ne0.true (all _ (inside c.before.before.before.before.before) (unused c.before.before.before.before.before)).size_is))
     (λ c. (place c.before.before.before.before.before).next)

@@ -2,6 +2,7 @@
 -- Assumes nothing.
 use Prim.Native.Nat.{ℕ, ◌-◌, ◌*◌, ◌≤◌, ◌<◌}
 use mathlib.Core.Path.{◌≡◌, sym, ap, ◌∙◌, subst}
+use mathlib.Core.Bool.{not}
 use mathlib.Core.List.{List}
 use native.Mathlib.Nat.{le_refl, mul-le-mul, pos_of_ne-zero, ne_of_gt}
 use native.Mathlib.Omega.{arith}
@@ -142,7 +143,7 @@ used_spec =
     (λ c. pos_of_ne-zero c.if-size-eq0.false)
     (λ c. tt)
     (λ c κs. tt)
-    (λ c. refuses (λ all. not-both _ c.if-not-same_bits.true (c.same_bits.ensures.1 (all.0 _ (place c.before.before.before.before.before.before).used).scale-is (scale-is-number _ (omega (arith, size_fits c.before.before.before.before.before.before))))))
+    (λ c. refuses (λ all. not-both _ (ap not c.if-not-same_bits.true) (c.same_bits.ensures.1 (all.0 _ (place c.before.before.before.before.before.before).used).scale-is (scale-is-number _ (omega (arith, size_fits c.before.before.before.before.before.before))))))
     (λ c. Fits-le (size_fits c.before.before.before.before.before.before) (Fits-lit tt))
     (λ c. Fits-le (mul-le-mul {n₂ = 4294967295} {m₂ = 255} (stored-fits c.before.before.before.before.before.before) (size_fits c.before.before.before.before.before.before)) (Fits-lit tt))
     (λ c. (place c.before.before.before.before.before.before).fewer)

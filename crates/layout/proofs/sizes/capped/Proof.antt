@@ -59,7 +59,7 @@ one-size-more c =
     let step : min (t * e) (limit + 1) ≡ min (product (take (i + 1) sizes) * m) (limit + 1) =
     ap (λ (x : ℕ). min (x * e) (limit + 1)) at.loop-i.invariant.1 ∙ cut_step (limit + 1) (p * m) e ∙ ap (λ (x : ℕ). min x (limit + 1)) (sym next) in (
       search rules,
-      elim c.if-t-gt-LIMIT.branch [ tie.then-t-gt-LIMIT w ↦ w.t-is ∙ sym (min-eq_right ?) ∙ step | tie.else-t-gt-LIMIT w ↦ w.t-is ∙ sym (min-eq_left (le_trans ? (lit≤ tt))) ∙ step ],
+      ⊎_elim (λ w. w.t-is ∙ sym (min-eq_right w.if-t-gt-LIMIT.true) ∙ step) (λ w. w.t-is ∙ sym (min-eq_left (le_trans w.if-t-gt-LIMIT.false (lit≤ tt))) ∙ step) c.if-t-gt-LIMIT.branch-raw,
     )
 
 all-sizes : tie.Need-returns invariant-loop decreases-loop
