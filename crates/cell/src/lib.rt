@@ -8,7 +8,7 @@ ghost use Rattle.binary32.specs.Range.{UpTo, Below};
 ghost use Rattle.cell.specs.Rule.{clip_of, scale_of, whole_of, up_of, next_of, cell_at, ink_cell, found_of, scale};
 
 // One axis of a cell: the lower node, the upper node, and the weight of the upper one.
-#[derive(Drop)]
+#[derive(Clone, Copy)]
 pub struct Cell {
     pub x: usize,
     pub x_n: usize,
@@ -16,14 +16,14 @@ pub struct Cell {
 }
 
 // What clipping says of its input: the ink, from +0.0 to 1, or that it is NaN.
-#[derive(Drop)]
+#[derive(Clone, Copy)]
 pub enum Clipped {
     Ink(f32),
     NotANumber,
 }
 
 // What the cell rule says of its input: the cell, or that it is NaN.
-#[derive(Drop)]
+#[derive(Clone, Copy)]
 pub enum Found {
     At(Cell),
     NotANumber,

@@ -1,5 +1,6 @@
 // CLUT elements out of ICC profiles, document 02, E2, and their data alone. The meaning is in specs/Clut.antt and specs/Units.antt.
 #![tactic(auto)]
+
 mod values;
 
 ghost use Rattle.std.specs.Prelude.{◌≡◌, ℕ, ◌*◌, ◌≤◌, ltb};

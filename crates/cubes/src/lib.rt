@@ -1,5 +1,6 @@
 // Pyramid, prism and trilinear: three cells in a cube of f32 entries. The meaning is in specs/Cube.antt and specs/Blends.antt.
 #![tactic(auto)]
+
 mod blends;
 mod places;
 mod refusals;
@@ -13,7 +14,7 @@ ghost use Rattle.cubes.specs.Corners as Eight;
 use cell::Cell;
 
 // Which of the three blends.
-#[derive(Drop)]
+#[derive(Clone, Copy)]
 enum Method {
     Pyramidal,
     Prismatic,
@@ -21,7 +22,7 @@ enum Method {
 }
 
 // Where the entries of the eight corners start. A corner is named by the inks that stand at their upper node.
-#[derive(Drop)]
+#[derive(Clone, Copy)]
 struct Starts {
     low: usize,
     r: usize,
@@ -34,7 +35,7 @@ struct Starts {
 }
 
 // What stands at the eight corners, for one output.
-#[derive(Drop)]
+#[derive(Clone, Copy)]
 struct Corners {
     low: f32,
     r: f32,

@@ -12,7 +12,7 @@ ghost use Rattle.layout.specs.Lengths.{length_refusal};
 ghost use Rattle.layout.specs.Tested.{Tested, Fills};
 
 // The record of a layout. The strides count nodes, the filling sizes count table entries; unused sizes are 0.
-#[derive(Drop)]
+#[derive(Clone, Copy)]
 pub struct MultidimensionalLut {
     pub grid_strides: [u32; 16],
     pub grid_filling_size: [u32; 16],
@@ -23,18 +23,18 @@ pub struct MultidimensionalLut {
 }
 
 // What a layout answers: 0 and the record, or a refusal and a record of zeros.
-#[derive(Drop)]
+#[derive(Clone, Copy)]
 pub struct Laid {
     pub refusal: u32,
     pub lut: MultidimensionalLut,
 }
 
 // The number of a node in ICC.1's order.
-#[derive(Drop)]
+#[derive(Clone, Copy)]
 pub struct NodeNumber(pub u32);
 
 // The place of a node's first entry in the table.
-#[derive(Drop)]
+#[derive(Clone, Copy)]
 pub struct EntryOffset(pub u64);
 
 // A node's m entries stand together. Nothing else turns a node number into an entry offset.

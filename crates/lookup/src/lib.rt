@@ -1,5 +1,6 @@
 // The lookups of one to fifteen inks.
 #![tactic(auto)]
+
 mod place;
 mod value;
 

@@ -1,5 +1,6 @@
 // The node reader: a node's entries in the table, by its coordinates.
 #![tactic(auto)]
+
 mod check;
 mod coordinates;
 

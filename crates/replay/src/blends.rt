@@ -3,7 +3,7 @@ use crate::{floats, print, words};
 use cell::Cell;
 
 // The cells of a cube's three inks, its size and outputs.
-#[derive(Drop)]
+#[derive(Clone, Copy)]
 struct Cube {
     x: Cell,
     y: Cell,

@@ -21,7 +21,7 @@ ghost use Rattle.walk.specs.Kept.{skip_of, reads_in, Counts};
 use layout::MultidimensionalLut;
 
 // Four neighbouring outputs of one node, or of one corner. LLVM keeps one in a vector register.
-#[derive(Drop)]
+#[derive(Clone, Copy)]
 pub struct Four {
     pub a: f32,
     pub b: f32,
@@ -31,7 +31,7 @@ pub struct Four {
 
 // The tetrahedron of three inks: where its entries stand, counted from the lowest corner, q before and p after an ink's
 // step; far: the farthest. And the weights.
-#[derive(Drop)]
+#[derive(Clone, Copy)]
 pub struct Plan {
     pub p1: usize,
     pub q1: usize,
@@ -46,14 +46,14 @@ pub struct Plan {
 }
 
 // Where the lowest corner of all inks' cells stands, or that an input is NaN.
-#[derive(Drop)]
+#[derive(Clone, Copy)]
 pub enum Lowest {
     At(usize),
     NotANumber,
 }
 
 // A call's number, and how many nodes it read: 0 where it is refused.
-#[derive(Drop)]
+#[derive(Clone, Copy)]
 pub struct Counted {
     pub refusal: u32,
     pub reads: u32,

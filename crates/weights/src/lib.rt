@@ -1,5 +1,6 @@
 // Weights for 8-bit codes: document 01. The rule is in specs/Rule.antt.
 #![tactic(auto)]
+
 mod bits;
 mod lower;
 mod upper;
@@ -12,14 +13,14 @@ ghost use Rattle.weights.specs.Rule.{scale_of, cell_of, weight_cell, entry33, ze
 use cell::Cell;
 
 // The 256 weights of a grid size: 0 and a cell for each code, or 3 and zeros.
-#[derive(Drop)]
+#[derive(Clone, Copy)]
 pub struct Ranged {
     pub refusal: u32,
     pub weights: [Cell; 256],
 }
 
 // The weight of one code: 0 and its cell, or 3 and zeros.
-#[derive(Drop)]
+#[derive(Clone, Copy)]
 pub struct RangedCell {
     pub refusal: u32,
     pub cell: Cell,
@@ -111,7 +112,7 @@ pub fn create_ranged_256(g: u8) -> Ranged
 }
 
 // An entry of the constant table: the two nodes, and the bits of the weight.
-#[derive(Drop)]
+#[derive(Clone, Copy)]
 struct Entry {
     x: u8,
     x_n: u8,

@@ -18,7 +18,7 @@ nan-bits : (x : Float) → eq x x ≡ false → 0x7fc0_0000 ≡ to_bits binary32
 unfolding ne to_bits
 nan-bits x h = sym (ap (to_bits binary32) (differs_from_itself x (subst T (sym (ap not h)) tt)))
 
-pub bits-spec : {M : Type 1} → statement M
-bits-spec =
+pub bits_spec : {M : Type 1} → statement M
+bits_spec =
     tie.close
-    (tie.spec (λ c. is_number c.before.args.x c.if1.true) (λ c. search rules) (λ c. nan-bits c.before.args.x c.if1.false))
+    (tie.spec (λ c. is_number c.args.x c.if-x.true) (λ c. search rules) (λ c. nan-bits c.args.x c.if-x.false))

@@ -22,11 +22,11 @@ the_nan (fin s m e) h = absurd (subst T (sym h) tt)
 nan_pattern : (b : ℕ) → 0x7f80_0000 < b % 0x8000_0000 → nan ≡ of_bits binary32 b
 nan_pattern b h = the_nan (of_bits binary32 b) (sym (nan_bits_is binary32 b) ∙ nan_bits_above binary32 b ∙ lt-ltb 0x7f80_0000 (b % 0x8000_0000) h)
 
-pub float-spec : {M : Type 1} → statement M
+pub float_spec : {M : Type 1} → statement M
 unfolding div of_bits
-float-spec =
+float_spec =
     tie.close
     (tie.spec
-    (λ c. number-pattern c.before.args.bits c.if1.true)
+    (λ c. number-pattern c.args.bits c.if-bits-le2139095040.true)
     (λ c. search rules)
-    (λ c. nan_pattern c.before.args.bits c.if1.false))
+    (λ c. nan_pattern c.args.bits c.if-bits-le2139095040.false))
