@@ -1,6 +1,7 @@
 // Table files for the controllers' flash: document 02, E9. The meaning is in specs/File.antt. An entry is lent as its 32 bits, so
 // that a NaN keeps its payload.
 #![tactic(auto)]
+
 mod blocks;
 mod check;
 mod words;

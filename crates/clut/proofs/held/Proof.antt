@@ -22,4 +22,4 @@ of_two : (bytes width : ℕ) → width ≡ 2 → (c : ℕ) → ltb (bytes / 2) c
 of_two bytes width is c = halved bytes c ∙ ap (λ (w : ℕ). ltb bytes (w * c)) (sym is)
 
 pub held_spec : {M : Type 1} → statement M
-held_spec = tie.close (tie.spec (λ c. of_one _ _ c.if1.true) (λ c. of_two _ _ (omega arith)))
+held_spec = tie.close (tie.spec (λ c. of_one _ _ c.if-width-eq1.true) (λ c. of_two _ _ (omega arith)))

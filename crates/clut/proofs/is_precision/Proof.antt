@@ -4,6 +4,6 @@ use Rattle.clut.specs.Units.{is_precision}
 use Rattle.clut.proofs.is_precision.Statement.{statement}
 use Rattle.clut.proofs.is_precision.Tie as tie
 
-pub is-precision-spec : {M : Type 1} → statement M
+pub is_precision_spec : {M : Type 1} → statement M
 unfolding is_precision
-is-precision-spec = tie.close (tie.spec (λ c. simp (eq-eqb _ 1 c.if1.true)) (λ c. simp (ne_eqb _ 1 c.if1.false)))
+is_precision_spec = tie.close (tie.spec (λ c. simp (eq-eqb _ 1 c.if-precision-eq1.true)) (λ c. simp (ne_eqb _ 1 c.if-precision-eq1.false)))

@@ -18,59 +18,59 @@ use Rattle.clut.proofs.Reading.{clut-refused, clut-units, clut-is-layout, short-
 use Rattle.clut.proofs.read_clut.Statement.{statement}
 use Rattle.clut.proofs.read_clut.Tie as tie
 
-laid : (c : tie.After-layout) → let a = c.before.before.before.before.before.args in c.layout.result ≡ layout_of a.element.now a.n a.m
-laid c = let a = c.before.before.before.before.before.args in c.layout.ensures.answer ∙ ap (λ (sizes : List ℕ). laid_of sizes a.n a.m) c.before.first-16.ensures
+laid : (c : tie.After-layout-laid) → let a = c.args in c.layout-laid.result ≡ layout_of a.element.now a.n a.m
+laid c = let a = c.args in c.layout-laid.ensures.answer ∙ ap (λ (sizes : List ℕ). laid_of sizes a.n a.m) c.first_16.ensures
 
-accepted : (c : tie.Else2) → let a = c.before.before.before.before.before.before.before.args in (layout_of a.element.now a.n a.m).refusal ≡ 0
-accepted c = ap (λ (l : Laid). l.refusal) (sym (laid c.before.before)) ∙ c.if2.false
+accepted : (c : tie.Else-laid-ne0) → let a = c.args in (layout_of a.element.now a.n a.m).refusal ≡ 0
+accepted c = ap (λ (l : Laid). l.refusal) (sym (laid c.before.before)) ∙ c.if-laid-ne0.false
 
-is-layout : (c : tie.Else2) → let a = c.before.before.before.before.before.before.before.args in IsLayout (layout_of a.element.now a.n a.m).lut
+is-layout : (c : tie.Else-laid-ne0) → let a = c.args in IsLayout (layout_of a.element.now a.n a.m).lut
 is-layout c =
-    let a = c.before.before.before.before.before.before.before.args in
-    clut-is-layout a.element.now a.n a.m (λ i. (c.before.before.before.before.before.before.shared-slice-known.given i).fits) (accepted c)
+    let a = c.args in
+    clut-is-layout a.element.now a.n a.m (λ i. (c.shared_slice_known-1.given i).fits) (accepted c)
 
-total-is : (c : tie.After-entry-count) → let a = c.before.before.before.before.before.before.before.before.args in c.entry-count.result ≡ total_of a.element.now a.n a.m
+total-is : (c : tie.After-entry_count-total) → let a = c.args in c.entry_count-total.result ≡ total_of a.element.now a.n a.m
 total-is c =
-    c.entry-count.ensures
-    ∙ ap (λ (l : Laid). get_or l.lut.grid_filling_size 0 0 * get_or l.lut.grid_sizes 0 0) (laid c.before.before.before)
-    ∙ first-filling _ (is-layout c.before)
+    c.entry_count-total.ensures
+    ∙ ap (λ (l : Laid). get_or l.lut.grid_filling_size 0 0 * get_or l.lut.grid_sizes 0 0) (laid c.before.before.before.before)
+    ∙ first-filling _ (is-layout c.before.before)
 
 -- what `read_units` answered of it, and what the element's answer then is
-answered : (c : tie.After-read-units) → let a = c.before.before.before.before.before.before.before.before.before.before.before.before.args in
-    (r : Laid) → r ≡ on_done c.read-units.result (layout_of a.element.now a.n a.m) (refused_by c.read-units.result)
-    → ClutRead a.element.now a.n a.m a.entries.now r c.read-units.new.1.1.1.0
+answered : (c : tie.After-read_units-number) → let a = c.args in
+    (r : Laid) → r ≡ on_done c.read_units-number.result (layout_of a.element.now a.n a.m) (refused_by c.read_units-number.result)
+    → ClutRead a.element.now a.n a.m a.entries.now r c.read_units-number.new.entries.1.1.0
 answered c r answer =
-    let a = c.before.before.before.before.before.before.before.before.before.before.before.before.args in
-    let now = c.read-units.new.1.1.1.0 in
-    let counted = subst (λ (total : ℕ). UnitsRead (take (length a.element.now - 20) (drop 20 a.element.now)) (precision_of a.element.now) total a.entries.now c.read-units.result now)
-    (total-is c.before.before.before.before) c.read-units.ensures in
-    let units = subst (λ (bytes : List ℕ). UnitsRead bytes (precision_of a.element.now) (total_of a.element.now a.n a.m) a.entries.now c.read-units.result now) (rest-is 20 a.element.now) counted in
+    let a = c.args in
+    let now = c.read_units-number.new.1.1.1.0 in
+    let counted = subst (λ (total : ℕ). UnitsRead (take (length a.element.now - 20) (drop 20 a.element.now)) (precision_of a.element.now) total a.entries.now c.read_units-number.result now)
+    (total-is c.before.before.before.before) c.read_units-number.ensures in
+    let units = subst (λ (bytes : List ℕ). UnitsRead bytes (precision_of a.element.now) (total_of a.element.now a.n a.m) a.entries.now c.read_units-number.result now) (rest-is 20 a.element.now) counted in
     clut-units a.element.now a.n a.m a.entries.now _ _ units
-    (data-number a.element.now a.n a.m (length a.entries.now) c.before.before.before.before.before.before.before.before.before.if1.false (accepted c.before.before.before.before.before)) r answer
+    (data-number a.element.now a.n a.m (length a.entries.now) c.if-element-lt20.false (accepted c.before.before.before.before.before.before)) r answer
 
-pub read-clut-spec : {M : Type 1} → statement M
-read-clut-spec =
+pub read_clut_spec : {M : Type 1} → statement M
+read_clut_spec =
     tie.close
     (tie.spec
     (λ c κs. search rules)
-    (λ c. let a = c.before.before.before.before.args in
-    clut-refused a.element.now a.n a.m a.entries.now 13 (λ e. omega arith) (short-element a.element.now a.n a.m _ c.before.if1.true) _ c.refused.ensures)
+    (λ c. let a = c.args in
+    clut-refused a.element.now a.n a.m a.entries.now 13 (λ e. omega arith) (short-element a.element.now a.n a.m _ c.if-element-lt20.true) _ c.refused.ensures)
     (λ c κs. search rules)
     (λ c κs. search rules)
-    (λ c. let a = c.before.before.before.before.before.before.before.args in
-    let refused : (layout_of a.element.now a.n a.m).refusal ≡ 0 → ⊥ = λ e. c.if2.true (ap (λ (l : Laid). l.refusal) (laid c.before.before) ∙ e) in
+    (λ c. let a = c.args in
+    let refused : (layout_of a.element.now a.n a.m).refusal ≡ 0 → ⊥ = λ e. c.if-laid-ne0.true (ap (λ (l : Laid). l.refusal) (laid c.before.before) ∙ e) in
     clut-refused a.element.now a.n a.m a.entries.now (layout_of a.element.now a.n a.m).refusal refused
-    (layout-number a.element.now a.n a.m _ c.before.before.before.before.if1.false refused) _ (laid c.before.before ∙ laid-zeroed _ _ _ refused))
+    (layout-number a.element.now a.n a.m _ c.if-element-lt20.false refused) _ (laid c.before.before ∙ laid-zeroed _ _ _ refused))
     (λ c κs. search rules)
     (λ c. search rules)
-    (λ c. search (rules, c.shared-slice-known2.given 16))
+    (λ c. search (rules, c.shared_slice_known-2-1.given 16))
     (λ c. search rules)
     (λ c. search rules)
     (λ c. search rules)
     (λ c κs. search rules)
     (λ c κs. search rules)
     (λ c. search rules)
-    (λ c. answered c.before.before.before.before _ (c.refused2.ensures ∙ kept c.before.before.before.before.read-units.result _ _ c.before.if3.true refl))
+    (λ c. answered c.before.before.before.before _ (c.refused-then-number-ne0.ensures ∙ kept c.read_units-number.result _ _ c.if-number-ne0.true refl))
     (λ c. search rules)
     (λ c. answered c.before.before.before _
-    (laid c.before.before.before.before.before.before.before.before.before.before ∙ given c.before.before.before.read-units.result _ _ (sym c.if3.false))))
+    (laid c.before.before.before.before.before.before.before.before.before.before.before ∙ given c.read_units-number.result _ _ (sym c.if-number-ne0.false))))

@@ -7,19 +7,19 @@ use Rattle.clut.proofs.Reading.{data-holds}
 use Rattle.clut.proofs.read_units.Statement.{statement}
 use Rattle.clut.proofs.read_units.Tie as tie
 
-pub read-units-spec : {M : Type 1} → statement M
-read-units-spec =
+pub read_units_spec : {M : Type 1} → statement M
+read_units_spec =
     tie.close
     (tie.spec
     (λ c κs. search rules)
-    (λ c. let a = c.before.before.before.before.args in
+    (λ c. let a = c.args in
     record {
-      number = c.before.data-refusal.ensures;
-      entries = unwritten c.before.data-refusal.result (entry_at a.precision a.bytes.now) a.count a.entries.now c.if1.true refl;
+      number = c.data_refusal-refusal.ensures;
+      entries = unwritten c.data_refusal-refusal.result (entry_at a.precision a.bytes.now) a.count a.entries.now c.if-refusal-ne0.true refl;
     })
-    (λ c κs. data-holds _ _ _ _ (sym c.before.before.data-refusal.ensures ∙ c.before.if1.false))
+    (λ c κs. data-holds _ _ _ _ (sym c.data_refusal-refusal.ensures ∙ c.if-refusal-ne0.false))
     (λ c. search rules)
     (λ c. record {
-      number = sym c.before.before.before.before.if1.false ∙ c.before.before.before.before.before.data-refusal.ensures;
-      entries = c.before.before.read.ensures;
+      number = sym c.if-refusal-ne0.false ∙ c.data_refusal-refusal.ensures;
+      entries = c.read.ensures;
     }))

@@ -30,27 +30,27 @@ answers method cx cy cz g m cube old p is =
     rw is (written_same _ (answer_at (blend_of method) cx cy cz g m cube) m old (λ o l. kept-starts method (starts cx cy cz g m) cube o cx.w cy.w cz.w))
 
 -- what the checks have passed
-allowed : (c : tie.Else1) →
-    let at = c.before.before.before.before.args in
+allowed : (c : tie.Else-number-ne0) →
+    let at = c.args in
     Accepted at.cx at.cy at.cz at.g at.m (length at.cube.now) (length at.answer.now)
-allowed c = accepted _ _ _ _ _ _ _ (sym c.before.checked.ensures ∙ c.if1.false)
+allowed c = accepted _ _ _ _ _ _ _ (sym c.checked-number.ensures ∙ c.if-number-ne0.false)
 
-returns : tie.Need-returns
-returns c = record { number = c.before.checked.ensures; entries = untouched _ _ _ _ c.if1.true }
+returns : tie.Need-returns-then-number-ne0
+returns c = record { number = c.checked-number.ensures; entries = untouched _ _ _ _ c.if-number-ne0.true }
 
-write-answers-requires : tie.Need-write-answers-requires
-write-answers-requires c κs = let a = allowed c.before.before in (a.wide, reach _ _ _ _ _ _ a.inside a.long _ c.before.starts.ensures)
+write-answers-requires : tie.Need-write_answers-requires
+write-answers-requires c κs = let a = allowed c.before.before in (a.wide, reach _ _ _ _ _ _ a.inside a.long _ c.starts-p.ensures)
 
-returns-2 : tie.Need-returns-2
+returns-2 : tie.Need-returns
 returns-2 c =
-    let done = c.before.before in
-    let passed = done.before.before.before in
-    let at = passed.before.before.before.before.args in
+    let done = c in
+    let passed = c in
+    let at = passed.args in
     record {
-      number = sym passed.if1.false ∙ passed.before.checked.ensures;
-      entries = done.write-answers.ensures ∙ answers at.method at.cx at.cy at.cz at.g at.m at.cube.now at.answer.now _ done.before.before.starts.ensures;
+      number = sym passed.if-number-ne0.false ∙ passed.checked-number.ensures;
+      entries = done.write_answers.ensures ∙ answers at.method at.cx at.cy at.cz at.g at.m at.cube.now at.answer.now _ done.starts-p.ensures;
     }
 
-pub interpolate-spec : {M : Type 1} → statement M
-interpolate-spec =
+pub interpolate_spec : {M : Type 1} → statement M
+interpolate_spec =
     tie.close (tie.spec (λ c κs. search rules) returns (λ c κs. (allowed c).inside) write-answers-requires (λ c. search rules) returns-2)

@@ -6,19 +6,19 @@ use Rattle.nodes.proofs.Shown.{shown-nothing, node-stands, shown-node}
 use Rattle.nodes.proofs.node.Statement.{statement}
 use Rattle.nodes.proofs.node.Tie as tie
 
-pub node-spec : {M : Type 1} → statement M
-node-spec =
+pub node_spec : {M : Type 1} → statement M
+node_spec =
     tie.close
     (tie.spec
     (λ c κs. tt)
     (λ c. refl)
-    (λ c. let s = c.before.before.before.before.before in shown-nothing s.args.lut s.args.table.now s.args.coordinates.now _ c.before.before.node-refusal.ensures c.before.if1.true)
+    (λ c. let s = c.before.before.before.before.before in shown-nothing s.args.lut s.args.table.now s.args.coordinates.now _ c.node_refusal.ensures c.if-node_refusal-ne0.true)
     (λ c κs. let s = c.before.before.before.before in
-    let ok = node-passed s.args.lut s.args.table.now s.args.coordinates.now _ c.before.node-refusal.ensures c.if1.false in
-    (node-layout s.args.lut s.args.table.now s.args.coordinates.now _ c.before.node-refusal.ensures c.if1.false, (ok.as_many, node-inside s.args.lut s.args.table.now s.args.coordinates.now _ c.before.node-refusal.ensures c.if1.false)))
-    (λ c. let s = c.before.before.before.before.before in omega (arith, c.first_entry.ensures, node-stands s.args.lut s.args.table.now s.args.coordinates.now _ c.before.before.node-refusal.ensures c.before.if1.false))
-    (λ c. let s = c.before.before.before.before.before in omega (arith, c.first_entry.ensures, node-stands s.args.lut s.args.table.now s.args.coordinates.now _ c.before.before.node-refusal.ensures c.before.if1.false))
-    (λ c. let s = c.before.before.before.before.before in omega (arith, c.first_entry.ensures, node-stands s.args.lut s.args.table.now s.args.coordinates.now _ c.before.before.node-refusal.ensures c.before.if1.false))
-    (λ c. let s = c.before.before.before.before.before in omega (arith, c.first_entry.ensures, node-stands s.args.lut s.args.table.now s.args.coordinates.now _ c.before.before.node-refusal.ensures c.before.if1.false))
-    (λ c. let s = c.before.before.before.before.before in omega (arith, c.first_entry.ensures, node-stands s.args.lut s.args.table.now s.args.coordinates.now _ c.before.before.node-refusal.ensures c.before.if1.false))
-    (λ c. let s = c.before.before.before.before.before.before in shown-node s.args.lut s.args.table.now s.args.coordinates.now _ c.before.before.before.node-refusal.ensures c.before.before.if1.false _ c.before.first_entry.ensures))
+    let ok = node-passed s.args.lut s.args.table.now s.args.coordinates.now _ c.node_refusal.ensures c.if-node_refusal-ne0.false in
+    (node-layout s.args.lut s.args.table.now s.args.coordinates.now _ c.node_refusal.ensures c.if-node_refusal-ne0.false, (ok.as_many, node-inside s.args.lut s.args.table.now s.args.coordinates.now _ c.node_refusal.ensures c.if-node_refusal-ne0.false)))
+    (λ c. let s = c.before.before.before.before.before in omega (arith, c.first_entry-first.ensures, node-stands s.args.lut s.args.table.now s.args.coordinates.now _ c.node_refusal.ensures c.if-node_refusal-ne0.false))
+    (λ c. let s = c.before.before.before.before.before in omega (arith, c.first_entry-first.ensures, node-stands s.args.lut s.args.table.now s.args.coordinates.now _ c.node_refusal.ensures c.if-node_refusal-ne0.false))
+    (λ c. let s = c.before.before.before.before.before in omega (arith, c.first_entry-first.ensures, node-stands s.args.lut s.args.table.now s.args.coordinates.now _ c.node_refusal.ensures c.if-node_refusal-ne0.false))
+    (λ c. let s = c.before.before.before.before.before in omega (arith, c.first_entry-first.ensures, node-stands s.args.lut s.args.table.now s.args.coordinates.now _ c.node_refusal.ensures c.if-node_refusal-ne0.false))
+    (λ c. let s = c.before.before.before.before.before in omega (arith, c.first_entry-first.ensures, node-stands s.args.lut s.args.table.now s.args.coordinates.now _ c.node_refusal.ensures c.if-node_refusal-ne0.false))
+    (λ c. let s = c in shown-node s.args.lut s.args.table.now s.args.coordinates.now _ c.node_refusal.ensures c.if-node_refusal-ne0.false _ c.first_entry-first.ensures))

@@ -5,15 +5,15 @@ use Rattle.nodes.proofs.Refusals.{node-passed, node-layout, node-inside}
 use Rattle.nodes.proofs.node_offset.Statement.{statement}
 use Rattle.nodes.proofs.node_offset.Tie as tie
 
-pub node-offset-spec : {M : Type 1} → statement M
-node-offset-spec =
+pub node_offset_spec : {M : Type 1} → statement M
+node_offset_spec =
     tie.close
     (tie.spec
     (λ c κs. tt)
-    (λ c. let read = c.before.node-refusal.ensures in
-    record { laid = read.laid; decides = read.decides; offset = kept _ _ 0 c.if1.true read.number })
-    (λ c κs. let s = c.before.before.before.before in
-    let as_many = (node-passed s.args.lut s.args.table.now s.args.coordinates.now _ c.before.node-refusal.ensures c.if1.false).as_many in
-    (node-layout s.args.lut s.args.table.now s.args.coordinates.now _ c.before.node-refusal.ensures c.if1.false, (as_many, node-inside s.args.lut s.args.table.now s.args.coordinates.now _ c.before.node-refusal.ensures c.if1.false)))
-    (λ c. let read = c.before.before.node-refusal.ensures in
-    record { laid = read.laid; decides = read.decides; offset = c.first_entry.ensures ∙ given _ _ 0 (sym c.before.if1.false ∙ read.number) }))
+    (λ c. let read = c.node_refusal.ensures in
+    record { laid = read.laid; decides = read.decides; offset = kept _ _ 0 c.if-node_refusal-ne0.true read.number })
+    (λ c κs. let s = c in
+    let as_many = (node-passed s.args.lut s.args.table.now s.args.coordinates.now _ c.node_refusal.ensures c.if-node_refusal-ne0.false).as_many in
+    (node-layout s.args.lut s.args.table.now s.args.coordinates.now _ c.node_refusal.ensures c.if-node_refusal-ne0.false, (as_many, node-inside s.args.lut s.args.table.now s.args.coordinates.now _ c.node_refusal.ensures c.if-node_refusal-ne0.false)))
+    (λ c. let read = c.node_refusal.ensures in
+    record { laid = read.laid; decides = read.decides; offset = c.first_entry.ensures ∙ given _ _ 0 (sym c.if-node_refusal-ne0.false ∙ read.number) }))

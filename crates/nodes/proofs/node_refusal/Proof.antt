@@ -6,17 +6,17 @@ use Rattle.nodes.proofs.Refusals.{node-refused, node-counted, node-tested}
 use Rattle.nodes.proofs.node_refusal.Statement.{statement}
 use Rattle.nodes.proofs.node_refusal.Tie as tie
 
-pub node-refusal-spec : {M : Type 1} → statement M
-node-refusal-spec =
+pub node_refusal_spec : {M : Type 1} → statement M
+node_refusal_spec =
     tie.close
     (tie.spec
     (λ c κs. tt)
     (λ c. let s = c.before.before.before.before in
-    node-refused s.args.lut s.args.table.now s.args.coordinates.now _ c.before.refused.ensures c.if1.true)
-    (λ c κs. let s = c.before.before.before.before.before in node-counted s.args.lut s.args.table.now s.args.coordinates.now _ c.before.before.refused.ensures c.before.if1.false)
+    node-refused s.args.lut s.args.table.now s.args.coordinates.now _ c.refused-refusal.ensures c.if-refusal-ne0.true)
+    (λ c κs. let s = c.before.before.before.before.before in node-counted s.args.lut s.args.table.now s.args.coordinates.now _ c.refused-refusal.ensures c.if-refusal-ne0.false)
     (λ c. let s = c.before.before.before.before.before.before.before in
-    subst (λ (out : Bool). NodeRefused s.args.lut s.args.table.now s.args.coordinates.now (cond out 10 0)) c.if2.true
-    (node-tested s.args.lut s.args.table.now s.args.coordinates.now _ c.before.before.before.before.refused.ensures c.before.before.before.if1.false c.before.below.result c.before.below.ensures))
-    (λ c. let s = c.before.before.before.before.before.before.before in
-    subst (λ (out : Bool). NodeRefused s.args.lut s.args.table.now s.args.coordinates.now (cond out 10 0)) c.if2.false
-    (node-tested s.args.lut s.args.table.now s.args.coordinates.now _ c.before.before.before.before.refused.ensures c.before.before.before.if1.false c.before.below.result c.before.below.ensures)))
+    subst (λ (out : Bool). NodeRefused s.args.lut s.args.table.now s.args.coordinates.now (cond out 10 0)) c.if-not-below.true
+    (node-tested s.args.lut s.args.table.now s.args.coordinates.now _ c.refused-refusal.ensures c.if-refusal-ne0.false c.below.result c.below.ensures))
+    (λ c. let s = c in
+    subst (λ (out : Bool). NodeRefused s.args.lut s.args.table.now s.args.coordinates.now (cond out 10 0)) c.if-not-below.false
+    (node-tested s.args.lut s.args.table.now s.args.coordinates.now _ c.refused-refusal.ensures c.if-refusal-ne0.false c.below.result c.below.ensures)))

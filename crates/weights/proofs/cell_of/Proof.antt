@@ -13,24 +13,24 @@ product_small a b h l = mul-le-mul {n₂ = 255} {m₂ = 255} (omega arith) (omeg
 small : (c : tie.Start) → c.args.index * c.args.last ≤ 65025
 small c = product_small c.args.index c.args.last (search rules) (search rules)
 
-mul-x : tie.Need-mul-x
+mul-x : tie.Need-overflow_mul-x
 mul-x c = omega (arith, small c)
 
-add-smaller : tie.Need-add-smaller
+add-smaller : tie.Need-overflow_add-x
 add-smaller c = omega (arith, small c)
 
-smaller-requires : tie.Need-smaller-requires
+smaller-requires : tie.Need-smaller-x_n-requires
 smaller-requires c κs = search rules
 
-cast-t9 : tie.Need-cast-t9
+cast-t9 : tie.Need-overflow_cast-result
 cast-t9 c = omega (arith, small c.before)
 
-cast-t10 : tie.Need-cast-t10
+cast-t10 : tie.Need-overflow_cast-result-2
 cast-t10 c = search rules
 
 returns : tie.Need-returns
 unfolding cell_of
-returns c = simp c.before.before.smaller.ensures
+returns c = simp c.smaller-x_n.ensures
 
-pub cell-of-spec : {M : Type 1} → statement M
-cell-of-spec = tie.close (tie.spec mul-x add-smaller smaller-requires cast-t9 cast-t10 (λ c. search rules) (λ c. search rules) returns)
+pub cell_of_spec : {M : Type 1} → statement M
+cell_of_spec = tie.close (tie.spec mul-x add-smaller smaller-requires cast-t9 cast-t10 (λ c. search rules) (λ c. search rules) returns)

@@ -27,30 +27,30 @@ all g index s old new some is many end inv = rw (ne_eqb g 0 some, inv, end, is, 
 stored : (f : ℕ → Cell) (index : ℕ) (v : Cell) (old new : List Cell) → v ≡ f index → new ≡ written f index old → set new index v ≡ written f (index + 1) old
 stored f index v old new is inv = rw (is, inv) (written_next f index old)
 
-abbrev invariant-loop : tie.invariant-loop
+abbrev invariant-loop : tie.invariant-loop-index
 invariant-loop g weights₀ last s index₀ weights index = (index ≤ 256) × (weights ≡ written (cell_of last s) index weights₀)
 
-abbrev decreases-loop : tie.decreases-loop
+abbrev decreases-loop : tie.decreases-loop-index
 decreases-loop g weights₀ last s index₀ weights index = 256 - index
 
-returns : tie.Need-returns invariant-loop decreases-loop
-returns c = zeros _ _ c.before.zero-cell.ensures c.if1.true
+returns : tie.Need-returns-then-g-eq0 invariant-loop decreases-loop
+returns c = zeros _ _ c.zero_cell-weights.ensures c.if-g-eq0.true
 
-loop-holds : tie.Need-loop-init invariant-loop decreases-loop
+loop-holds : tie.Need-loop-index-init invariant-loop decreases-loop
 unfolding written
 loop-holds c = (omega arith, refl)
 
-loop-again : tie.Need-loop-preserved invariant-loop decreases-loop
-loop-again c = let at = c.before.before.loop in (omega arith, stored _ at.index _ _ _ c.cell-of.ensures at.invariant.1)
+loop-again : tie.Need-loop-index-preserved invariant-loop decreases-loop
+loop-again c = let at = c.loop-index in (omega arith, stored _ at.index _ _ _ c.cell_of.ensures at.invariant.1)
 
-returns-2 : tie.Need-returns-2 invariant-loop decreases-loop
+returns-2 : tie.Need-returns invariant-loop decreases-loop
 returns-2 c =
-    let at = c.before.loop in
-    let before = c.before.before in
-    all _ at.index before.scale.result _ at.weights before.before.if1.false before.scale.ensures refl (omega arith) at.invariant.1
+    let at = c.loop-index in
+    let before = c in
+    all _ at.index before.scale-s.result _ at.weights before.if-g-eq0.false before.scale-s.ensures refl (omega arith) at.invariant.1
 
-pub create-ranged-256-spec : {M : Type 1} → statement M
-create-ranged-256-spec =
+pub create_ranged_256_spec : {M : Type 1} → statement M
+create_ranged_256_spec =
     tie.close (tie.spec invariant-loop decreases-loop
     (λ c κs. search rules)
     returns

@@ -9,5 +9,5 @@ returns : tie.Need-returns
 unfolding lower33 upper33 bits33
 returns c = at_each lower33 upper33 bits33 c.args.index constants-right (search rules)
 
-pub entry-33-spec : {M : Type 1} → statement M
-entry-33-spec = tie.close (tie.spec (λ c. search rules) (λ c. search rules) (λ c. search rules) (λ c. search rules) returns)
+pub entry_33_spec : {M : Type 1} → statement M
+entry_33_spec = tie.close (tie.spec (λ c. search rules) (λ c. search rules) (λ c. search rules) (λ c. search rules) returns)

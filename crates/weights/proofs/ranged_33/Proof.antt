@@ -22,11 +22,11 @@ cell-is index e is =
     let c = weight_cell 33 index in
     rw is (λ i. record { x = c.x; x_n = c.x_n; w = of_bits-to_bits binary32 c.w (weight-fits index) i })
 
-float-from-bits-t5 : tie.Need-float-from-bits-t5
-float-from-bits-t5 c = rw c.before.before.before.entry-33.ensures.1 tt
+float-from-bits-t5 : tie.Need-float_from_bits-result
+float-from-bits-t5 c = rw c.entry_33-e.ensures.1 tt
 
 returns : tie.Need-returns
-returns c = cell-is _ _ c.before.before.before.entry-33.ensures.0
+returns c = cell-is _ _ c.entry_33-e.ensures.0
 
-pub ranged-33-spec : {M : Type 1} → statement M
-ranged-33-spec = tie.close (tie.spec (λ c κs. search rules) (λ c. search rules) (λ c. search rules) float-from-bits-t5 returns)
+pub ranged_33_spec : {M : Type 1} → statement M
+ranged_33_spec = tie.close (tie.spec (λ c κs. search rules) (λ c. search rules) (λ c. search rules) float-from-bits-t5 returns)

@@ -5,10 +5,10 @@ use Rattle.weights.specs.Rule.{scale_of}
 use Rattle.weights.proofs.scale.Statement.{statement}
 use Rattle.weights.proofs.scale.Tie as tie
 
-int-to-float-result : tie.Need-int-to-float-result
+int-to-float-result : tie.Need-int_to_float-result
 int-to-float-result c = search rules
 
-float-from-bits-result : tie.Need-float-from-bits-result
+float-from-bits-result : tie.Need-float_from_bits-result
 unfolding nan_bits
 float-from-bits-result c = search rules
 
@@ -16,5 +16,5 @@ returns : tie.Need-returns
 unfolding scale_of
 returns c = search rules
 
-pub scale-spec : {M : Type 1} → statement M
-scale-spec = tie.close (tie.spec int-to-float-result float-from-bits-result returns)
+pub scale_spec : {M : Type 1} → statement M
+scale_spec = tie.close (tie.spec int-to-float-result float-from-bits-result returns)

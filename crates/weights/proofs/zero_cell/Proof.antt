@@ -8,5 +8,5 @@ returns : tie.Need-returns
 unfolding of_bits
 returns c = refl
 
-pub zero-cell-spec : {M : Type 1} → statement M
-zero-cell-spec = tie.close (tie.spec returns)
+pub zero_cell_spec : {M : Type 1} → statement M
+zero_cell_spec = tie.close (tie.spec returns)

@@ -13,23 +13,23 @@ use Rattle.clut.proofs.Entries.{one_more, four-left}
 use Rattle.clut.proofs.values.fours.Statement.{statement}
 use Rattle.clut.proofs.values.fours.Tie as tie
 
-abbrev invariant-loop : tie.invariant-loop
+abbrev invariant-loop : tie.invariant-loop-e
 invariant-loop bytes entries₀ count e₀ entries e = (e ≤ count) × (entries ≡ written (entry_at 2 bytes) e entries₀) × (e % 4 ≡ 0)
 
-abbrev decreases-loop : tie.decreases-loop
+abbrev decreases-loop : tie.decreases-loop-e
 decreases-loop bytes entries₀ count e₀ entries e = count - e
 
 -- four are there: of values
-four : (c : tie.In-loop invariant-loop decreases-loop) → c.before.loop.e + 4 ≤ c.before.before.before.before.args.count
-four c = let l = c.before.loop in four-left _ l.e l.invariant.2 l.invariant.0 c.loop-test.true
+four : (c : tie.In-loop-e invariant-loop decreases-loop) → c.loop-e.e + 4 ≤ c.args.count
+four c = let l = c.loop-e in four-left _ l.e l.invariant.2 l.invariant.0 c.loop-e-test.true
 
 -- what an entry asks
-asked : (c : tie.In-loop invariant-loop decreases-loop) (at : ℕ) → at < c.before.loop.e + 4 → ((2 ≤ 2) × (2 * at + 2 ≤ length c.before.before.before.before.args.bytes.now)) × (65535 ≡ 256 ^ 2 - 1)
+asked : (c : tie.In-loop-e invariant-loop decreases-loop) (at : ℕ) → at < c.loop-e.e + 4 → ((2 ≤ 2) × (2 * at + 2 ≤ length c.args.bytes.now)) × (65535 ≡ 256 ^ 2 - 1)
 asked c at h = ((omega arith, omega (arith, four c)), refl)
 
 -- and of places
-places : (c : tie.After-entry4 invariant-loop decreases-loop) → c.before.before.before.before.before.loop.e + 4 ≤ length c.before.before.before.before.before.loop.entries
-places c = let l = c.before.before.before.before.before.loop in omega (arith, four c.before.before.before.before, ap length l.invariant.1 ∙ length-written _ l.e _)
+places : (c : tie.After-entry-d invariant-loop decreases-loop) → c.loop-e.e + 4 ≤ length c.loop-e.entries
+places c = let l = c.loop-e in omega (arith, four c.before.before.before.before, ap length l.invariant.1 ∙ length-written _ l.e _)
 
 four-more : (f : ℕ → Float) (e : ℕ) (old now : List Float) (a b c d : Float) → now ≡ written f e old → a ≡ f e → b ≡ f (e + 1) → c ≡ f (e + 2) → d ≡ f (e + 3)
     → set (set (set (set now e a) (e + 1) b) (e + 2) c) (e + 3) d ≡ written f (e + 4) old
@@ -39,9 +39,9 @@ four-more f e old now a b c d h p q r s =
     (one_more f (e + 1) old (e + 2) b q (omega arith) _
     (one_more f e old (e + 1) a p (omega arith) now h)))
 
-pub fours-spec : {M : Type 1} → statement M
+pub fours_spec : {M : Type 1} → statement M
 unfolding written
-fours-spec =
+fours_spec =
     tie.close
     (tie.spec
     invariant-loop
@@ -58,23 +58,23 @@ fours-spec =
     (λ c. omega (arith, places c))
     (λ c. let at = places c in search rules)
     (λ c. let at = places c in search rules)
-    (λ c. let l = c.before.before.before.before.before.loop in
+    (λ c. let l = c.loop-e in
     let at : l.e + 1 < length l.entries = omega (arith, places c) in simp length-set (at))
     (λ c. let at = places c in search rules)
     (λ c. let at = places c in search rules)
-    (λ c. let l = c.before.before.before.before.before.loop in
+    (λ c. let l = c.loop-e in
     let at : l.e + 2 < length l.entries = omega (arith, places c) in simp length-set (at))
     (λ c. let at = places c in search rules)
     (λ c. let at = places c in search rules)
-    (λ c. let l = c.before.before.before.before.before.loop in
+    (λ c. let l = c.loop-e in
     let at : l.e + 3 < length l.entries = omega (arith, places c) in simp length-set (at))
     (λ c. let at = places c in search rules)
     (λ c. omega (arith, four c.before.before.before.before))
-    (λ c. let l = c.before.before.before.before.before.loop in
-    let a = c.before.before.before.before.before.before.before.before.args in (
+    (λ c. let l = c.loop-e in
+    let a = c.args in (
       four c.before.before.before.before,
-      four-more (entry_at 2 a.bytes.now) l.e a.entries.now l.entries _ _ _ _ l.invariant.1 c.before.before.before.entry.ensures c.before.before.entry2.ensures c.before.entry3.ensures c.entry4.ensures,
+      four-more (entry_at 2 a.bytes.now) l.e a.entries.now l.entries _ _ _ _ l.invariant.1 c.entry-a.ensures c.entry-b.ensures c.entry-c.ensures c.entry-d.ensures,
       omega (arith, l.invariant.2),
     ))
-    (λ c. ap length c.before.loop.invariant.1 ∙ length-written _ c.before.loop.e _)
-    (λ c. (c.before.loop.invariant.0, c.before.loop.invariant.1)))
+    (λ c. ap length c.loop-e.invariant.1 ∙ length-written _ c.loop-e.e _)
+    (λ c. (c.loop-e.invariant.0, c.loop-e.invariant.1)))

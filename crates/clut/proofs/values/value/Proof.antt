@@ -16,10 +16,10 @@ use Rattle.clut.specs.Units.{value_at}
 use Rattle.clut.proofs.values.value.Statement.{statement}
 use Rattle.clut.proofs.values.value.Tie as tie
 
-abbrev invariant-loop : tie.invariant-loop
+abbrev invariant-loop : tie.invariant-loop-i
 invariant-loop bytes width e at v₀ i₀ v i = (i ≤ width) × (v ≡ big_endian (take i (drop at bytes))) × (v < 256 ^ i)
 
-abbrev decreases-loop : tie.decreases-loop
+abbrev decreases-loop : tie.decreases-loop-i
 decreases-loop bytes width e at v₀ i₀ v i = width - i
 
 -- before the last of at most two bytes the number is a byte
@@ -51,20 +51,20 @@ value_spec =
     decreases-loop
     (λ c. search rules)
     (λ c. (omega arith, refl, omega arith))
-    (λ c. let l = c.before.loop in record { fits = omega (arith, byte-yet l.v l.i _ c.loop-test.true c.before.before.requires.0 l.invariant.2) })
+    (λ c. let l = c.loop-i in record { fits = omega (arith, byte-yet l.v l.i _ c.loop-i-test.true c.requires.0 l.invariant.2) })
     (λ c. search rules)
     (λ c. omega arith)
-    (λ c. Fits-under w16 _ 256 (c.shared-slice-known.given _).fits tt)
-    (λ c. let l = c.before.before.loop in
-    pair l.v _ (byte-yet l.v l.i _ c.before.loop-test.true c.before.before.before.requires.0 l.invariant.2) (c.shared-slice-known.given _))
+    (λ c. Fits-under w16 _ 256 (c.shared_slice_known-1.given _).fits tt)
+    (λ c. let l = c.loop-i in
+    pair l.v _ (byte-yet l.v l.i _ c.loop-i-test.true c.requires.0 l.invariant.2) (c.shared_slice_known-1.given _))
     (λ c. search rules)
     (λ c. omega arith)
-    (λ c. let l = c.before.before.loop in
-    let a = c.before.before.before.args in (
+    (λ c. let l = c.loop-i in
+    let a = c.args in (
       omega arith,
       next a.bytes.now (a.width * a.e) l.i l.v (omega arith) l.invariant.1,
-      grows l.v _ l.i l.invariant.2 (c.shared-slice-known.given _).fits,
+      grows l.v _ l.i l.invariant.2 (c.shared_slice_known-1.given _).fits,
     ))
-    (λ c. let l = c.before.loop in
-    let a = c.before.before.args in
-    l.invariant.1 ∙ ap (λ (k : ℕ). big_endian (take k (drop (a.width * a.e) a.bytes.now))) (le_antisymm l.invariant.0 c.loop-test.false)))
+    (λ c. let l = c.loop-i in
+    let a = c.args in
+    l.invariant.1 ∙ ap (λ (k : ℕ). big_endian (take k (drop (a.width * a.e) a.bytes.now))) (le_antisymm l.invariant.0 c.loop-i-test.false)))

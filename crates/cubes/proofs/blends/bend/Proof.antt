@@ -3,5 +3,5 @@ use mathlib.Core.Path.{refl}
 use Rattle.cubes.proofs.blends.bend.Statement.{statement}
 use Rattle.cubes.proofs.blends.bend.Tie as tie
 
-pub bend-spec : {M : Type 1} → statement M
-bend-spec = tie.close (tie.spec (λ c. refl))
+pub bend_spec : {M : Type 1} → statement M
+bend_spec = tie.close (tie.spec (λ c. refl))

@@ -2,11 +2,11 @@
 use Rattle.cubes.proofs.blends.both_above.Statement.{statement}
 use Rattle.cubes.proofs.blends.both_above.Tie as tie
 
-returns : tie.Need-returns
-returns c = simp c.if1.true
+returns : tie.Need-returns-then-a-c
+returns c = simp c.if-a-c.true
 
-returns-2 : tie.Need-returns-2
-returns-2 c = simp c.if1.false
+returns-2 : tie.Need-returns
+returns-2 c = simp c.if-a-c.false
 
-pub both-above-spec : {M : Type 1} → statement M
-both-above-spec = tie.close (tie.spec returns returns-2)
+pub both_above_spec : {M : Type 1} → statement M
+both_above_spec = tie.close (tie.spec returns returns-2)

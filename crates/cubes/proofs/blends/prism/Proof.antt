@@ -4,14 +4,14 @@ use borrow.Author.Rules.{rules}
 use Rattle.cubes.proofs.blends.prism.Statement.{statement}
 use Rattle.cubes.proofs.blends.prism.Tie as tie
 
-returns : tie.Need-returns
-returns c = simp (c.bend2.ensures, c.before.bend.ensures, c.before.before.terms.ensures, c.before.before.before.before.before.before.if1.true)
+returns : tie.Need-returns-then-db-dr
+returns c = simp (c.bend-then-db-dr.ensures, c.bend.ensures, c.terms.ensures, c.if-db-dr.true)
 
-returns-2 : tie.Need-returns-2
-returns-2 c = simp (c.bend4.ensures, c.before.bend3.ensures, c.before.before.terms2.ensures, c.before.before.before.before.before.before.if1.false)
+returns-2 : tie.Need-returns
+returns-2 c = simp (c.bend-3.ensures, c.bend-2.ensures, c.terms-2.ensures, c.if-db-dr.false)
 
-pub prism-spec : {M : Type 1} → statement M
-prism-spec =
+pub prism_spec : {M : Type 1} → statement M
+prism_spec =
     tie.close
     (tie.spec
     (λ c κs. search rules)

@@ -5,25 +5,25 @@ use borrow.Author.Rules.{rules}
 use Rattle.cubes.proofs.blends.pyramid.Statement.{statement}
 use Rattle.cubes.proofs.blends.pyramid.Tie as tie
 
-returns : tie.Need-returns
+returns : tie.Need-returns-then-both_above
 returns c =
-    let at = c.before.before.before.before.before in
-    simp (c.bend.ensures, c.before.terms.ensures, sym at.before.both-above.ensures ∙ at.if1.true)
+    let at = c in
+    simp (c.bend.ensures, c.terms.ensures, sym at.both_above.ensures ∙ at.if-both_above.true)
 
-returns-2 : tie.Need-returns-2
+returns-2 : tie.Need-returns-then-both_above-2
 returns-2 c =
-    let second = c.before.before.before.before.before in
-    let first = second.before.before in
-    simp (c.bend2.ensures, c.before.terms2.ensures, sym first.before.both-above.ensures ∙ first.if1.false, sym second.before.both-above2.ensures ∙ second.if2.true)
+    let second = c in
+    let first = second in
+    simp (c.bend-then-both_above-2.ensures, c.terms-then-both_above-2.ensures, sym first.both_above.ensures ∙ first.if-both_above.false, sym second.both_above-2.ensures ∙ second.if-both_above-2.true)
 
-returns-3 : tie.Need-returns-3
+returns-3 : tie.Need-returns
 returns-3 c =
-    let second = c.before.before.before.before.before in
-    let first = second.before.before in
-    simp (c.bend3.ensures, c.before.terms3.ensures, sym first.before.both-above.ensures ∙ first.if1.false, sym second.before.both-above2.ensures ∙ second.if2.false)
+    let second = c in
+    let first = second in
+    simp (c.bend-2.ensures, c.terms-2.ensures, sym first.both_above.ensures ∙ first.if-both_above.false, sym second.both_above-2.ensures ∙ second.if-both_above-2.false)
 
-pub pyramid-spec : {M : Type 1} → statement M
-pyramid-spec =
+pub pyramid_spec : {M : Type 1} → statement M
+pyramid_spec =
     tie.close
     (tie.spec
     (λ c κs. search rules)

@@ -3,5 +3,5 @@ use mathlib.Core.Path.{refl}
 use Rattle.cubes.proofs.blends.terms.Statement.{statement}
 use Rattle.cubes.proofs.blends.terms.Tie as tie
 
-pub terms-spec : {M : Type 1} → statement M
-terms-spec = tie.close (tie.spec (λ c. refl))
+pub terms_spec : {M : Type 1} → statement M
+terms_spec = tie.close (tie.spec (λ c. refl))

@@ -5,12 +5,12 @@ use Rattle.cubes.proofs.blends.trilinear.Tie as tie
 
 returns : tie.Need-returns
 returns c =
-    let green = c.before.before in
-    let red = green.before.before in
-    simp (c.lerp7.ensures, c.before.lerp6.ensures, green.lerp5.ensures, green.before.lerp4.ensures, red.lerp3.ensures, red.before.lerp2.ensures, red.before.before.lerp.ensures)
+    let green = c in
+    let red = green in
+    simp (c.lerp.ensures, c.lerp-c1.ensures, green.lerp-c0.ensures, green.lerp-c11.ensures, red.lerp-c01.ensures, red.lerp-c10.ensures, red.lerp-c00.ensures)
 
-pub trilinear-spec : {M : Type 1} → statement M
-trilinear-spec =
+pub trilinear_spec : {M : Type 1} → statement M
+trilinear_spec =
     tie.close
     (tie.spec
     (λ c κs. search rules)

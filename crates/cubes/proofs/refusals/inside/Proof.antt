@@ -5,19 +5,19 @@ use borrow.Author.Tests.{not-true, not-false}
 use Rattle.cubes.proofs.refusals.inside.Statement.{statement}
 use Rattle.cubes.proofs.refusals.inside.Tie as tie
 
-returns : tie.Need-returns
-returns c = simp (sym c.before.on-grid.ensures ∙ not-true _ c.if1.true)
+returns : tie.Need-returns-then-not-on_grid
+returns c = simp (sym c.on_grid.ensures ∙ c.if-not-on_grid.true)
 
-returns-2 : tie.Need-returns-2
+returns-2 : tie.Need-returns-then-not-on_grid-2
 returns-2 c =
-    let at = c.before.before in
-    simp (sym at.before.on-grid.ensures ∙ not-false _ at.if1.false, sym c.before.on-grid2.ensures ∙ not-true _ c.if2.true)
+    let at = c in
+    simp (sym at.on_grid.ensures ∙ at.if-not-on_grid.false, sym c.on_grid-2.ensures ∙ c.if-not-on_grid-2.true)
 
-returns-3 : tie.Need-returns-3
+returns-3 : tie.Need-returns
 returns-3 c =
-    let second = c.before in
-    let first = second.before.before in
-    simp (sym first.before.on-grid.ensures ∙ not-false _ first.if1.false, sym second.before.on-grid2.ensures ∙ not-false _ second.if2.false, c.on-grid3.ensures)
+    let second = c in
+    let first = second in
+    simp (sym first.on_grid.ensures ∙ first.if-not-on_grid.false, sym second.on_grid-2.ensures ∙ second.if-not-on_grid-2.false, c.on_grid-3.ensures)
 
-pub inside-spec : {M : Type 1} → statement M
-inside-spec = tie.close (tie.spec (λ c κs. search rules) returns (λ c κs. search rules) returns-2 (λ c κs. search rules) returns-3)
+pub inside_spec : {M : Type 1} → statement M
+inside_spec = tie.close (tie.spec (λ c κs. search rules) returns (λ c κs. search rules) returns-2 (λ c κs. search rules) returns-3)

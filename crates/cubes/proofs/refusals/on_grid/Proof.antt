@@ -4,13 +4,13 @@ use Rattle.cubes.specs.Cube.{on_grid}
 use Rattle.cubes.proofs.refusals.on_grid.Statement.{statement}
 use Rattle.cubes.proofs.refusals.on_grid.Tie as tie
 
-returns : tie.Need-returns
+returns : tie.Need-returns-then-lower-size
 unfolding on_grid
-returns c = simp (lt-ltb _ _ c.if1.true)
+returns c = simp (lt-ltb _ _ c.if-lower-size.true)
 
-returns-2 : tie.Need-returns-2
+returns-2 : tie.Need-returns
 unfolding on_grid
-returns-2 c = simp (le-ltb _ _ c.if1.false)
+returns-2 c = simp (le-ltb _ _ c.if-lower-size.false)
 
-pub on-grid-spec : {M : Type 1} → statement M
-on-grid-spec = tie.close (tie.spec returns returns-2)
+pub on_grid_spec : {M : Type 1} → statement M
+on_grid_spec = tie.close (tie.spec returns returns-2)

@@ -9,20 +9,20 @@ use Rattle.layout.specs.Lengths.{length_refusal}
 use Rattle.nodes.proofs.check.refused.Statement.{statement}
 use Rattle.nodes.proofs.check.refused.Tie as tie
 
-pub refused-spec : {M : Type 1} → statement M
-refused-spec =
+pub refused_spec : {M : Type 1} → statement M
+refused_spec =
     tie.close
     (tie.spec
     (λ c κs. tt)
-    (λ c. record { laid = c.before.is-layout.result; decides = c.before.is-layout.ensures; number = sym (simp c.if1.true) })
+    (λ c. record { laid = c.is_layout.result; decides = c.is_layout.ensures; number = sym (simp c.if-not-is_layout.true) })
     (λ c κs. tt)
     (λ c κs. tt)
-    (λ c. let s = c.before.before.before.before in
-    let layout = c.before.before.before.is-layout in
-    let is = not-false _ c.before.before.if1.false in
-    let total = c.before.entry-count.ensures ∙ first-filling s.args.lut (layout.ensures.holds is) in
+    (λ c. let s = c in
+    let layout = c.is_layout in
+    let is = c.if-not-is_layout.false in
+    let total = c.entry_count.ensures ∙ first-filling s.args.lut (layout.ensures.holds is) in
     record {
       laid = layout.result;
       decides = layout.ensures;
-      number = c.length-refusal.ensures ∙ ap (λ (t : ℕ). length_refusal t s.args.lut.input_inks s.args.table s.args.given 0) total ∙ ap (λ (b : Bool). cond (not b) 9 (length_refusal (entries s.args.lut) s.args.lut.input_inks s.args.table s.args.given 0)) (sym is);
+      number = c.length_refusal.ensures ∙ ap (λ (t : ℕ). length_refusal t s.args.lut.input_inks s.args.table s.args.given 0) total ∙ ap (λ (b : Bool). cond (not b) 9 (length_refusal (entries s.args.lut) s.args.lut.input_inks s.args.table s.args.given 0)) (sym is);
     }))

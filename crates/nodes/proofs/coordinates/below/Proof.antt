@@ -14,18 +14,18 @@ use Rattle.layout.proofs.Order.{in-grid-all, in-grid-fails}
 use Rattle.nodes.proofs.coordinates.below.Statement.{statement}
 use Rattle.nodes.proofs.coordinates.below.Tie as tie
 
-abbrev invariant-loop : tie.invariant-loop
+abbrev invariant-loop : tie.invariant-loop-i
 invariant-loop coordinates sizes i₀ i = (i ≤ length coordinates) × ((k : ℕ) → k < i → get_or coordinates k 0 < get_or sizes k 0)
 
-abbrev decreases-loop : tie.decreases-loop
+abbrev decreases-loop : tie.decreases-loop-i
 decreases-loop coordinates sizes i₀ i = length coordinates - i
 
 -- the test of the coordinates, by the coordinates last ink first
 tested : (sizes ks : List ℕ) (r : Bool) → in_grid (last_first (length ks) sizes) (last_first (length ks) ks) ≡ r → r ≡ in_grid (last_first (length ks) sizes) (reverse ks)
 tested sizes ks r e = sym (ap (in_grid (last_first (length ks) sizes)) (reverse-all ks) ∙ e)
 
-pub below-spec : {M : Type 1} → statement M
-below-spec =
+pub below_spec : {M : Type 1} → statement M
+below_spec =
     tie.close
     (tie.spec
     invariant-loop
@@ -35,8 +35,8 @@ below-spec =
     (λ c. search rules)
     (λ c. omega arith)
     (λ c. omega arith)
-    (λ c. let s = c.before.before.before.before in tested s.args.t2 s.args.coordinates.now _ (in-grid-fails _ _ _ c.before.before.before.loop.i c.before.before.loop-test.true c.if1.true))
+    (λ c. let s = c.before.before.before.before in tested s.args.sizes s.args.coordinates.now _ (in-grid-fails _ _ _ c.loop-i.i c.loop-i-test.true c.if-sizes-i.true))
     (λ c. omega arith)
     (λ c. omega arith)
-    (λ c. (omega arith, below_more _ _ c.before.before.before.loop.invariant.1 c.if1.false))
-    (λ c. let s = c.before.before in tested s.args.t2 s.args.coordinates.now _ (in-grid-all _ _ _ (λ k l. c.before.loop.invariant.1 k (omega arith)))))
+    (λ c. (omega arith, below_more _ _ c.loop-i.invariant.1 c.if-sizes-i.false))
+    (λ c. let s = c in tested s.args.sizes s.args.coordinates.now _ (in-grid-all _ _ _ (λ k l. c.loop-i.invariant.1 k (omega arith)))))

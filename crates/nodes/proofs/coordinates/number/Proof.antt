@@ -22,10 +22,10 @@ use Rattle.layout.proofs.Laws.{inks-to, node_of, node-fits}
 use Rattle.nodes.proofs.coordinates.number.Statement.{statement}
 use Rattle.nodes.proofs.coordinates.number.Tie as tie
 
-abbrev invariant-loop : tie.invariant-loop
+abbrev invariant-loop : tie.invariant-loop-i
 invariant-loop coordinates strides sum₀ i₀ sum i = (i ≤ length coordinates) × (sum ≡ strided strides (reverse (take i coordinates))) × (sum ≤ i * 2 ^ 40)
 
-abbrev decreases-loop : tie.decreases-loop
+abbrev decreases-loop : tie.decreases-loop-i
 decreases-loop coordinates strides sum₀ i₀ sum i = length coordinates - i
 
 -- one coordinate more
@@ -36,58 +36,58 @@ strided-next strides ks i h =
     rw (add-one, take-suc ks i 0 h, reverse-append) (ap (λ (k : ℕ). get_or ks i 0 * get_or strides k 0 + strided strides (reverse (take i ks))) len)
 
 -- a coordinate times a stride
-term-low : (c : tie.After-shared-slice-known invariant-loop decreases-loop) →
-    let start = c.before.before.before.before in
-    let i = c.before.before.loop.i in
+term-low : (c : tie.After-shared_slice_known-1 invariant-loop decreases-loop) →
+    let start = c in
+    let i = c.loop-i.i in
     get_or start.args.coordinates.now i 0 * get_or start.args.lut.grid_strides i 0 ≤ 2 ^ 40
 term-low c =
-    let start = c.before.before.before.before in
-    let i = c.before.before.loop.i in
+    let start = c in
+    let i = c.loop-i.i in
     let ks = start.args.coordinates.now in
     let inside : in_grid (last_first (length ks) start.args.lut.grid_sizes) (last_first (length ks) ks) ≡ true =
     (λ j. in_grid (last_first (start.requires.1.0 j) start.args.lut.grid_sizes) (sym (reverse-all ks) j)) ∙ start.requires.1.1 in
-    let line = in-grid-at start.args.lut.grid_sizes ks (length ks) i inside c.before.loop-test.true in
+    let line = in-grid-at start.args.lut.grid_sizes ks (length ks) i inside c.loop-i-test.true in
     let byte : Fits w8 (get_or start.args.lut.grid_sizes i 0) = search rules in
     let wide : Fits w32 (get_or start.args.lut.grid_strides i 0) = search rules in
     le_trans (mul-le-mul {n₂ = 255} {m₂ = 2 ^ 32 - 1} (omega arith) (omega arith)) (lit≤ tt)
 
-loop-holds : tie.Need-loop-init invariant-loop decreases-loop
+loop-holds : tie.Need-loop-i-init invariant-loop decreases-loop
 unfolding strided
 loop-holds c = (omega arith, refl, omega arith)
 
 -- at the end the sum is the node's number
-sum_is : (c : tie.After-loop invariant-loop decreases-loop) → let start = c.before.before.before in c.before.loop.sum ≡ strided start.args.lut.grid_strides (reverse start.args.coordinates.now)
+sum_is : (c : tie.After-loop-i invariant-loop decreases-loop) → let start = c in c.loop-i.sum ≡ strided start.args.lut.grid_strides (reverse start.args.coordinates.now)
 sum_is c =
-    let start = c.before.before.before in
+    let start = c in
     let ks = start.args.coordinates.now in
-    let all : c.before.loop.i ≡ length ks = omega arith in
-    c.before.loop.invariant.1 ∙ ap (λ (l : List ℕ). strided start.args.lut.grid_strides (reverse l)) (ap (λ (k : ℕ). take k ks) all ∙ take-length ks)
+    let all : c.loop-i.i ≡ length ks = omega arith in
+    c.loop-i.invariant.1 ∙ ap (λ (l : List ℕ). strided start.args.lut.grid_strides (reverse l)) (ap (λ (k : ℕ). take k ks) all ∙ take-length ks)
 
-number_is : (c : tie.After-loop invariant-loop decreases-loop) → let start = c.before.before.before in c.before.loop.sum ≡ index (ink_sizes start.args.lut) (reverse start.args.coordinates.now)
+number_is : (c : tie.After-loop-i invariant-loop decreases-loop) → let start = c in c.loop-i.sum ≡ index (ink_sizes start.args.lut) (reverse start.args.coordinates.now)
 number_is c =
-    let start = c.before.before.before in
+    let start = c in
     let ks = start.args.coordinates.now in
     sum_is c ∙ node_of start.args.lut start.requires.0 (reverse ks) (length-reverse ks ∙ start.requires.1.0)
 
-pub number-spec : {M : Type 1} → statement M
-number-spec =
+pub number_spec : {M : Type 1} → statement M
+number_spec =
     tie.close
     (tie.spec
     invariant-loop
     decreases-loop
     (λ c. loop-holds c)
-    (λ c. omega (arith, inks-to c.before.before.before.args.lut c.before.before.before.requires.0))
-    (λ c. omega (arith, inks-to c.before.before.before.before.args.lut c.before.before.before.before.requires.0))
-    (λ c. omega (arith, inks-to c.before.before.before.before.args.lut c.before.before.before.before.requires.0))
-    (λ c. omega (arith, inks-to c.before.before.before.before.args.lut c.before.before.before.before.requires.0))
+    (λ c. omega (arith, inks-to c.args.lut c.requires.0))
+    (λ c. omega (arith, inks-to c.args.lut c.requires.0))
+    (λ c. omega (arith, inks-to c.args.lut c.requires.0))
+    (λ c. omega (arith, inks-to c.args.lut c.requires.0))
     (λ c. search rules)
     (λ c. Fits-le (term-low c) (Fits-lit tt))
-    (λ c. omega (arith, term-low c, inks-to c.before.before.before.before.args.lut c.before.before.before.before.requires.0))
-    (λ c. omega (arith, inks-to c.before.before.before.before.args.lut c.before.before.before.before.requires.0))
-    (λ c. omega (arith, inks-to c.before.before.before.before.args.lut c.before.before.before.before.requires.0))
-    (λ c. let s = c.before.before.before.before in
-    let next = strided-next s.args.lut.grid_strides s.args.coordinates.now c.before.before.loop.i (omega arith) in
+    (λ c. omega (arith, term-low c, inks-to c.args.lut c.requires.0))
+    (λ c. omega (arith, inks-to c.args.lut c.requires.0))
+    (λ c. omega (arith, inks-to c.args.lut c.requires.0))
+    (λ c. let s = c in
+    let next = strided-next s.args.lut.grid_strides s.args.coordinates.now c.loop-i.i (omega arith) in
     (omega arith, omega (arith, next), omega (arith, term-low c)))
-    (λ c. let s = c.before.before.before in
+    (λ c. let s = c in
     omega (arith, number_is c, node-fits s.args.lut s.requires.0 (reverse s.args.coordinates.now) (in-grid-within _ _ s.requires.1.1)))
     (λ c. number_is c))
