@@ -38,10 +38,10 @@ total-is c =
 -- what `read_units` answered of it, and what the element's answer then is
 answered : (c : tie.After-read_units-number) → let a = c.args in
     (r : Laid) → r ≡ on_done c.read_units-number.result (layout_of a.element.now a.n a.m) (refused_by c.read_units-number.result)
-    → ClutRead a.element.now a.n a.m a.entries.now r c.read_units-number.new.entries.1.1.0
+    → ClutRead a.element.now a.n a.m a.entries.now r c.read_units-number.new.entries
 answered c r answer =
     let a = c.args in
-    let now = c.read_units-number.new.1.1.1.0 in
+    let now = c.read_units-number.new.entries in
     let counted = subst (λ (total : ℕ). UnitsRead (take (length a.element.now - 20) (drop 20 a.element.now)) (precision_of a.element.now) total a.entries.now c.read_units-number.result now)
     (total-is c.before.before.before.before) c.read_units-number.ensures in
     let units = subst (λ (bytes : List ℕ). UnitsRead bytes (precision_of a.element.now) (total_of a.element.now a.n a.m) a.entries.now c.read_units-number.result now) (rest-is 20 a.element.now) counted in

@@ -14,35 +14,35 @@ use Rattle.flash.proofs.write_by_sizes.Statement.{statement}
 use Rattle.flash.proofs.write_by_sizes.Tie as tie
 
 -- a layout that is accepted
-module _ (c : tie.Else1) where
+module _ (c : tie.Else-refusal-ne0) where
   abbrev sizes : List ℕ
-  sizes = c.before.before.before.before.before.args.sizes.now
+  sizes = c.args.sizes.now
 
   abbrev n : ℕ
-  n = c.before.before.before.before.before.args.n
+  n = c.args.n
 
   abbrev m : ℕ
-  m = c.before.before.before.before.before.args.m
+  m = c.args.m
 
   abbrev made : MultidimensionalLut
   made = (laid_of sizes n m).lut
 
   none : (laid_of sizes n m).refusal ≡ 0
-  none = sym c.before.filling-sizes.ensures.number ∙ c.if1.false
+  none = sym c.filling_sizes-refusal.ensures.number ∙ c.if-refusal-ne0.false
 
   is : IsLayout made
-  is = c.before.filling-sizes.ensures.laid c.if1.false
+  is = c.filling_sizes-refusal.ensures.laid c.if-refusal-ne0.false
 
-  row : c.before.filling-sizes.new.1.1.1.0 ≡ made.grid_filling_size
-  row = c.before.filling-sizes.ensures.row ∙ sym (given _ _ _ (sym none))
+  row : c.filling_sizes-refusal.new.filling ≡ made.grid_filling_size
+  row = c.filling_sizes-refusal.ensures.row ∙ sym (given _ _ _ (sym none))
 
-  total : get_or c.before.filling-sizes.new.1.1.1.0 0 0 * get_or sizes 0 0 ≡ entries made
+  total : get_or c.filling_sizes-refusal.new.filling 0 0 * get_or sizes 0 0 ≡ entries made
   total = total-by-sizes sizes n m none is _ row
 
-  within : get_or c.before.filling-sizes.new.1.1.1.0 0 0 * get_or sizes 0 0 ≤ limit
+  within : get_or c.filling_sizes-refusal.new.filling 0 0 * get_or sizes 0 0 ≤ limit
   within = omega (arith, total, entries_fit made is)
 
-  first-row : get_or c.before.filling-sizes.new.1.1.1.0 0 0 ≤ limit
+  first-row : get_or c.filling_sizes-refusal.new.filling 0 0 ≤ limit
   first-row = omega (arith, ap (λ (l : List ℕ). get_or l 0 0) row, filling-within made is 0 (inks-from made is))
 
   first-size : get_or sizes 0 0 < 256
@@ -54,23 +54,23 @@ module _ (c : tie.Else1) where
   few-outputs : m ≤ 15
   few-outputs = omega (arith, laid-outputs sizes n m none, outputs-to made is)
 
-pub write-by-sizes-spec : {M : Type 1} → statement M
-write-by-sizes-spec =
+pub write_by_sizes_spec : {M : Type 1} → statement M
+write_by_sizes_spec =
     tie.close
     (tie.spec
     (λ c κs. search rules)
-    (λ c. let refused = c.if1.true in
-    record { number = refused-first _ _ refused c.before.filling-sizes.ensures.number; bytes = unwritten _ _ _ _ refused refl })
+    (λ c. let refused = c.if-refusal-ne0.true in
+    record { number = refused-first _ _ refused c.filling_sizes-refusal.ensures.number; bytes = unwritten _ _ _ _ refused refl })
     (λ c. search rules)
     (λ c. Fits-under w64 _ 4_294_967_296 (omega (arith, first-row c)) tt)
     (λ c. search rules)
-    (λ c. Fits-under w64 _ 256 (first-size c.before) tt)
-    (λ c. Fits-under w64 _ 4_294_967_296 (omega (arith, within c.before)) tt)
-    (λ c. Fits-under w8 _ 16 (omega (arith, few c.before)) tt)
-    (λ c. Fits-under w8 _ 16 (omega (arith, few-outputs c.before)) tt)
-    (λ c κs. omega (arith, few c.before))
-    (λ c κs. within c.before.before.before)
+    (λ c. Fits-under w64 _ 256 (first-size c.before.before) tt)
+    (λ c. Fits-under w64 _ 4_294_967_296 (omega (arith, within c.before.before)) tt)
+    (λ c. Fits-under w8 _ 16 (omega (arith, few c.before.before)) tt)
+    (λ c. Fits-under w8 _ 16 (omega (arith, few-outputs c.before.before)) tt)
+    (λ c κs. omega (arith, few c.before.before))
+    (λ c κs. within c.before.before.before.before)
     (λ c. search rules)
-    (λ c. let e = c.before.before.before.before.before.before in
-    filed-by (sizes e) (n e) (m e) (none e) (is e) _ (total e) _ (c.before.before.before.before.used-sizes.ensures ∙ used-are (sizes e) (n e) (m e) (none e) (is e)) _ _ _ _
-    c.before.before.write-file.ensures))
+    (λ c. let e = c in
+    filed-by (sizes c.before.before.before.before.before.before.before) (n c.before.before.before.before.before.before.before) (m c.before.before.before.before.before.before.before) (none c.before.before.before.before.before.before.before) (is c.before.before.before.before.before.before.before) _ (total c.before.before.before.before.before.before.before) _ (c.used_sizes.ensures ∙ used-are (sizes c.before.before.before.before.before.before.before) (n c.before.before.before.before.before.before.before) (m c.before.before.before.before.before.before.before) (none c.before.before.before.before.before.before.before) (is c.before.before.before.before.before.before.before)) _ _ _ _
+    c.write_file.ensures))

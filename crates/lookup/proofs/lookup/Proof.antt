@@ -24,7 +24,7 @@ use Rattle.lookup.proofs.lookup.Statement.{statement}
 use Rattle.lookup.proofs.lookup.Tie as tie
 
 -- after the tests of the record and of the lengths
-module _ (c : tie.After-length-refusal) where
+module _ (c : tie.After-length_refusal-refusal) where
   abbrev start : tie.Start
   start = c.before.before.before.before.before.before.before
 
@@ -40,26 +40,26 @@ module _ (c : tie.After-length-refusal) where
   abbrev old : List Float
   old = start.args.answer.now
 
-  laid : c.before.before.before.is-layout.result ≡ true
-  laid = not-false _ c.before.before.if1.false
+  laid : c.is_layout.result ≡ true
+  laid = c.if-not-is_layout.false
 
   is : IsLayout lut
-  is = c.before.before.before.is-layout.ensures.holds laid
+  is = c.is_layout.ensures.holds laid
 
   -- the number, by the total as the definition has it
-  number : c.length-refusal.result ≡ length_refusal (entries lut) lut.input_inks (length table) (length inputs) 0
+  number : c.length_refusal-refusal.result ≡ length_refusal (entries lut) lut.input_inks (length table) (length inputs) 0
   number =
-      subst (λ (t : ℕ). c.length-refusal.result ≡ length_refusal t lut.input_inks (length table) (length inputs) 0)
-      (c.before.entry-count.ensures ∙ first-filling lut is) c.length-refusal.ensures
+      subst (λ (t : ℕ). c.length_refusal-refusal.result ≡ length_refusal t lut.input_inks (length table) (length inputs) 0)
+      (c.entry_count.ensures ∙ first-filling lut is) c.length_refusal-refusal.ensures
 
   looked : (r : ℕ) (now : List Float) → Answered never (ink_sizes lut) lut.input_inks lut.output_inks table inputs old r now
       → Looked lut table inputs old r now
-  looked = looked-answered never lut table inputs old _ c.before.before.before.is-layout.ensures laid
+  looked = looked-answered never lut table inputs old _ c.is_layout.ensures laid
 
-  refused : (c.length-refusal.result ≡ 0 → ⊥) → Looked lut table inputs old c.length-refusal.result old
+  refused : (c.length_refusal-refusal.result ≡ 0 → ⊥) → Looked lut table inputs old c.length_refusal-refusal.result old
   refused some = looked _ _ (answered-refused never (ink_sizes lut) _ _ table inputs old _ number some)
 
-  module _ (none : c.length-refusal.result ≡ 0) where
+  module _ (none : c.length_refusal-refusal.result ≡ 0) where
     passed : Passed true (entries lut) lut.input_inks (length table) (length inputs)
     passed = answered-passed never (ink_sizes lut) _ _ table inputs old _ number none
 
@@ -84,20 +84,20 @@ module _ (c : tie.After-length-refusal) where
         looked r now
         (answered-blended never (ink_sizes lut) _ _ table inputs old _ number none room r now (subst (Done r now) passed.as_many done))
 
-pub lookup-spec : {M : Type 1} → statement M
-lookup-spec =
+pub lookup_spec : {M : Type 1} → statement M
+lookup_spec =
     tie.close
     (tie.spec
     (λ c κs. tt)
-    (λ c. let a = c.before.before.before.before.before.args in
-    looked-refused never a.lut a.table.now a.inputs.now a.answer.now _ c.before.is-layout.ensures c.if1.true)
+    (λ c. let a = c.args in
+    looked-refused never a.lut a.table.now a.inputs.now a.answer.now _ c.is_layout.ensures c.if-not-is_layout.true)
     (λ c κs. tt)
     (λ c κs. tt)
-    (λ c. refused c.before c.if2.true)
-    (λ c. short c.before.before c.before.if2.false c.if3.true)
-    (λ c κs. let fits = c.before.before.before.before.before in
-    let ok = ready fits.before.before fits.before.if2.false in
-    (ok.0, (ok.1, fits.if3.false)))
-    (λ c. ap length c.before.before.write.ensures.entries ∙ length-left c.before.before.write.result _ _ _)
-    (λ c. let fits = c.before.before.before.before.before.before.before.before in
-    settled fits.before.before fits.before.if2.false fits.if3.false _ _ c.before.before.write.ensures))
+    (λ c. refused c.before c.if-refusal-ne0.true)
+    (λ c. short c.before.before c.if-refusal-ne0.false c.if-answer-m.true)
+    (λ c κs. let fits = c in
+    let ok = ready fits.before.before fits.if-refusal-ne0.false in
+    (ok.0, (ok.1, fits.if-answer-m.false)))
+    (λ c. ap length c.write.ensures.entries ∙ length-left c.write.result _ _ _)
+    (λ c. let fits = c in
+    settled fits.before.before fits.if-refusal-ne0.false fits.if-answer-m.false _ _ c.write.ensures))

@@ -9,17 +9,17 @@ use Rattle.lookup.proofs.Accepted.{looked-laid}
 use Rattle.lookup.proofs.lookup_by_sizes.Statement.{statement}
 use Rattle.lookup.proofs.lookup_by_sizes.Tie as tie
 
-pub lookup-by-sizes-spec : {M : Type 1} → statement M
-lookup-by-sizes-spec =
+pub lookup_by_sizes_spec : {M : Type 1} → statement M
+lookup_by_sizes_spec =
     tie.close
     (tie.spec
     (λ c κs. tt)
-    (λ c. let number = refused-first _ _ c.if1.true (ap (λ (l : Laid). l.refusal) c.before.before.layout.ensures.answer) in
-    record { number = number; entries = unwritten _ _ _ _ c.if1.true number })
+    (λ c. let number = refused-first _ _ c.if-laid-ne0.true (ap (λ (l : Laid). l.refusal) c.layout-laid.ensures.answer) in
+    record { number = number; entries = unwritten _ _ _ _ c.if-laid-ne0.true number })
     (λ c κs. tt)
-    (λ c. ap length c.before.before.lookup.ensures.entries ∙ length-left c.before.before.lookup.result _ _ _)
-    (λ c. let accepted = c.before.before.before.before in
-    let out = accepted.before.before in
-    let a = out.before.before.before.before.before.args in
-    looked-laid never a.sizes.now a.n a.m out.layout.result out.layout.ensures accepted.if1.false
-    a.table.now a.inputs.now a.answer.now _ _ c.before.before.lookup.ensures))
+    (λ c. ap length c.lookup.ensures.entries ∙ length-left c.lookup.result _ _ _)
+    (λ c. let accepted = c in
+    let out = accepted in
+    let a = out.args in
+    looked-laid never a.sizes.now a.n a.m out.layout-laid.result out.layout-laid.ensures accepted.if-laid-ne0.false
+    a.table.now a.inputs.now a.answer.now _ _ c.lookup.ensures))

@@ -12,36 +12,36 @@ use Rattle.lookup.proofs.Turns.{same-room}
 use Rattle.lookup.proofs.write.Statement.{statement}
 use Rattle.lookup.proofs.write.Tie as tie
 
-module _ (c : tie.After-place) where
+module _ (c : tie.After-place-refused) where
   abbrev start : tie.Start
   start = c.before.before.before.before.before.before.before
 
   -- what stands in the arrays
   abbrev cells : List Cell
-  cells = let now = c.place.new.1.1.1 in cells_at now.0 now.1.0 now.1.1.0 (length start.args.inputs.now)
+  cells = let now = c.place-refused.new in cells_at now.low now.high now.w (length start.args.inputs.now)
 
 pub write_spec : {M : Type 1} → statement M
 write_spec =
     tie.close
     (tie.spec
-    (λ c κs. let s = c.before.before.before.before.before.before in (omega (arith, s.requires.0.inks-to), (refl, refl, refl)))
-    (λ c. record { number = c.before.place.ensures.0; entries = unwritten _ _ _ _ c.if1.true refl })
-    (λ c κs. let tested = c.before.before.before.before in
-    let p = tested.before in
-    let s = start p in
+    (λ c κs. let s = c in (omega (arith, s.requires.0.inks-to), (refl, refl, refl)))
+    (λ c. record { number = c.place-refused.ensures.0; entries = unwritten _ _ _ _ c.if-refused-ne0.true refl })
+    (λ c κs. let tested = c in
+    let p = c in
+    let s = start c.before.before.before.before.before in
     let a = s.args in
     let reach =
-    inks-reach a.filling.now a.sizes.now a.inputs.now a.m s.pre.0 a.table.now s.pre.1.0 _ refl (cells p)
-    (p.place.ensures.1 tested.if1.false) in
-    (omega (arith, s.pre.0.inks-to), (reach, s.pre.1.1)))
-    (λ c. same-room _ _ _ _ c.before.before.each.ensures)
-    (λ c. let tested = c.before.before.before.before.before.before.before in
-    let p = tested.before in
-    let s = start p in
+    inks-reach a.filling.now a.sizes.now a.inputs.now a.m s.requires.0 a.table.now s.requires.1.0 _ refl (cells c.before.before.before.before.before)
+    (p.place-refused.ensures.1 tested.if-refused-ne0.false) in
+    (omega (arith, s.requires.0.inks-to), (reach, s.requires.1.1)))
+    (λ c. same-room _ _ _ _ c.each.ensures)
+    (λ c. let tested = c in
+    let p = c in
+    let s = start c.before.before.before.before.before.before.before.before in
     let a = s.args in
     record {
-      number = sym tested.if1.false ∙ p.place.ensures.0;
+      number = sym tested.if-refused-ne0.false ∙ p.place-refused.ensures.0;
       entries =
-          inks-done a.filling.now a.sizes.now a.inputs.now a.m s.pre.0 a.table.now s.pre.1.0 _ refl never (cells p)
-          (p.place.ensures.1 tested.if1.false) a.answer.now _ c.before.before.each.ensures;
+          inks-done a.filling.now a.sizes.now a.inputs.now a.m s.requires.0 a.table.now s.requires.1.0 _ refl never (cells c.before.before.before.before.before.before.before.before)
+          (p.place-refused.ensures.1 tested.if-refused-ne0.false) a.answer.now _ c.each.ensures;
     }))

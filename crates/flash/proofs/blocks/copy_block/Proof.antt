@@ -6,21 +6,21 @@ use Rattle.flash.specs.File.{word_at}
 use Rattle.flash.proofs.blocks.copy_block.Statement.{statement}
 use Rattle.flash.proofs.blocks.copy_block.Tie as tie
 
-abbrev invariant-loop : tie.invariant-loop
+abbrev invariant-loop : tie.invariant-loop-e
 invariant-loop file at bits₀ from count e₀ bits e = (e ≤ count) × (bits ≡ written_from from (λ k. word_at file (at + 4 * k)) e bits₀)
 
-abbrev decreases-loop : tie.decreases-loop
+abbrev decreases-loop : tie.decreases-loop-e
 decreases-loop file at bits₀ from count e₀ bits e = count - e
 
-room : tie.Need-slice-write-bits invariant-loop decreases-loop
+room : tie.Need-bounds-bits-from invariant-loop decreases-loop
 room c =
-    let l = c.before.before.loop in
-    let a = c.before.before.before.before.before.args in
+    let l = c.loop-e in
+    let a = c.args in
     omega (arith, ap length l.invariant.1 ∙ length-written-from a.from (λ k. word_at a.file.now (a.at + 4 * k)) l.e a.bits.now)
 
-pub copy-block-spec : {M : Type 1} → statement M
+pub copy_block_spec : {M : Type 1} → statement M
 unfolding written_from
-copy-block-spec =
+copy_block_spec =
     tie.close
     (tie.spec
     invariant-loop
@@ -34,12 +34,12 @@ copy-block-spec =
     room
     (λ c. search rules)
     (λ c. omega arith)
-    (λ c. let l = c.before.before.loop in
-    let a = c.before.before.before.before.before.args in (
+    (λ c. let l = c.loop-e in
+    let a = c.args in (
       omega arith,
       (λ k. set (l.invariant.1 k) (a.from + l.e) (c.word.ensures k)) ∙ written-from-next a.from (λ k. word_at a.file.now (a.at + 4 * k)) l.e a.bits.now,
     ))
-    (λ c. ap length c.before.loop.invariant.1 ∙ length-written-from _ _ c.before.loop.e _)
-    (λ c. let l = c.before.loop in
-    let a = c.before.before.before.before.args in
-    l.invariant.1 ∙ ap (λ (k : ℕ). written_from a.from (λ j. word_at a.file.now (a.at + 4 * j)) k a.bits.now) (le_antisymm l.invariant.0 c.loop-test.false)))
+    (λ c. ap length c.loop-e.invariant.1 ∙ length-written-from _ _ c.loop-e.e _)
+    (λ c. let l = c.loop-e in
+    let a = c.args in
+    l.invariant.1 ∙ ap (λ (k : ℕ). written_from a.from (λ j. word_at a.file.now (a.at + 4 * j)) k a.bits.now) (le_antisymm l.invariant.0 c.loop-e-test.false)))

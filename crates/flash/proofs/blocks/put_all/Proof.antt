@@ -10,13 +10,13 @@ use Rattle.flash.proofs.Files.{file-long, file-first, file-next}
 use Rattle.flash.proofs.blocks.put_all.Statement.{statement}
 use Rattle.flash.proofs.blocks.put_all.Tie as tie
 
-abbrev invariant-loop : tie.invariant-loop
+abbrev invariant-loop : tie.invariant-loop-k
 invariant-loop n m bits file₀ count k₀ file k =
     (k ≤ count)
     × (length file ≡ length file₀)
     × ((head old : List ℕ) → file₀ ≡ written (file_byte head bits) 512 old → file ≡ written (file_byte head bits) (512 * (k + 1)) old)
 
-abbrev decreases-loop : tie.decreases-loop
+abbrev decreases-loop : tie.decreases-loop-k
 decreases-loop n m bits file₀ count k₀ file k = count - k
 
 eighteen : (n m : ℕ) (sizes : List ℕ) → length sizes ≡ 16 → length (n ∷ m ∷ sizes) ≡ 18
@@ -25,7 +25,7 @@ eighteen n m sizes h = ap (λ (k : ℕ). suc (suc k)) h
 whole : (k t : ℕ) → k ≡ blocks_for t → 512 * (k + 1) ≡ file_length t
 whole k t is = omega (arith, file-long t)
 
-module _ (c : tie.At-loop invariant-loop decreases-loop) where
+module _ (c : tie.At-loop-k invariant-loop decreases-loop) where
   abbrev start : tie.Start invariant-loop decreases-loop
   start = c.before.before.before.before.before.before.before.before.before.before
 
@@ -33,30 +33,30 @@ module _ (c : tie.At-loop invariant-loop decreases-loop) where
   head = start.args.n ∷ start.args.m ∷ start.args.sizes
 
   -- block 0 is written, and the length is kept
-  first : c.before.before.before.before.put-block.new.1.1.1.1.0 ≡ written (file_byte head start.args.bits.now) 512 start.args.file.now
-  first = file-first head start.args.bits.now _ start.args.file.now _ c.before.before.before.before.before.before.before.head-words.ensures (eighteen start.args.n start.args.m start.args.sizes (omega arith)) c.before.before.before.before.put-block.ensures
+  first : c.put_block.new.file ≡ written (file_byte head start.args.bits.now) 512 start.args.file.now
+  first = file-first head start.args.bits.now _ start.args.file.now _ c.head_words-head.ensures (eighteen start.args.n start.args.m start.args.sizes (omega arith)) c.put_block.ensures
 
-  kept : length c.loop.file ≡ length start.args.file.now
-  kept = c.loop.invariant.1 ∙ ap length c.before.before.before.before.put-block.ensures ∙ length-written-from _ _ 512 _
+  kept : length c.loop-k.file ≡ length start.args.file.now
+  kept = c.loop-k.invariant.1 ∙ ap length c.put_block.ensures ∙ length-written-from _ _ 512 _
 
-  count-is : c.before.blocks-for.result ≡ blocks_for (length start.args.bits.now)
-  count-is = c.before.blocks-for.ensures
+  count-is : c.blocks_for-count.result ≡ blocks_for (length start.args.bits.now)
+  count-is = c.blocks_for-count.ensures
 
-starts : (c : tie.In-loop invariant-loop decreases-loop) →
-    let t = length c.before.before.before.before.before.before.before.before.before.before.before.args.bits.now in (126 * c.before.loop.k < t) × (c.before.loop.k < blocks_for t)
+starts : (c : tie.In-loop-k invariant-loop decreases-loop) →
+    let t = length c.args.bits.now in (126 * c.loop-k.k < t) × (c.loop-k.k < blocks_for t)
 starts c =
-    let t = length c.before.before.before.before.before.before.before.before.before.before.before.args.bits.now in
-    let low : c.before.loop.k < blocks_for t = omega (arith, count-is c.before, c.loop-test.true) in
-    (block-starts t c.before.loop.k low, low)
+    let t = length c.args.bits.now in
+    let low : c.loop-k.k < blocks_for t = omega (arith, count-is c.before, c.loop-k-test.true) in
+    (block-starts t c.loop-k.k low, low)
 
-few : (c : tie.In-loop invariant-loop decreases-loop) → c.before.loop.k + 1 ≤ 4_294_967_295
-few c = omega (arith, (starts c).1, blocks-few (length c.before.before.before.before.before.before.before.before.before.before.before.args.bits.now), c.before.before.before.before.before.before.before.before.before.before.before.requires.0)
+few : (c : tie.In-loop-k invariant-loop decreases-loop) → c.loop-k.k + 1 ≤ 4_294_967_295
+few c = omega (arith, (starts c).1, blocks-few (length c.args.bits.now), c.requires.0)
 
-room : (c : tie.In-loop invariant-loop decreases-loop) → 512 * (c.before.loop.k + 1) + 512 ≤ length c.before.loop.file
-room c = omega (arith, (starts c).1, file-long (length c.before.before.before.before.before.before.before.before.before.before.before.args.bits.now), kept c.before, c.before.before.before.before.before.before.before.before.before.before.before.requires.1)
+room : (c : tie.In-loop-k invariant-loop decreases-loop) → 512 * (c.loop-k.k + 1) + 512 ≤ length c.loop-k.file
+room c = omega (arith, (starts c).1, file-long (length c.args.bits.now), kept c.before, c.requires.1)
 
-pub put-all-spec : {M : Type 1} → statement M
-put-all-spec =
+pub put_all_spec : {M : Type 1} → statement M
+put_all_spec =
     tie.close
     (tie.spec
     invariant-loop
@@ -64,10 +64,10 @@ put-all-spec =
     (λ c κs. tt)
     (λ c. search rules)
     (λ c κs.
-    let s = c.before.before.before.before.before in
-    let five : length c.before.before.head-words.result ≡ 5 = ap length c.before.before.head-words.ensures ∙ length-tabulate 5 (λ j. word_at (s.args.n ∷ s.args.m ∷ s.args.sizes) (4 * j)) in
+    let s = c in
+    let five : length c.head_words-head.result ≡ 5 = ap length c.head_words-head.ensures ∙ length-tabulate 5 (λ j. word_at (s.args.n ∷ s.args.m ∷ s.args.sizes) (4 * j)) in
     (omega arith, omega (arith, five), omega (arith, file-long (length s.args.bits.now), s.requires.1)))
-    (λ c κs. c.before.before.before.before.before.before.before.before.requires.0)
+    (λ c κs. c.requires.0)
     (λ c. (omega arith, refl, λ head old e. e))
     (λ c. let h = (starts c).0 in search rules)
     (λ c. omega (arith, (starts c).0))
@@ -76,16 +76,16 @@ put-all-spec =
     (λ c. Fits-under w32 _ 4_294_967_296 (omega (arith, few c.before)) tt)
     (λ c. let h = few c.before.before in search rules)
     (λ c. let h = few c.before.before in search rules)
-    (λ c κs. (omega (arith, (starts c.before.before).0), c.before.at-most-126.ensures, room c.before.before))
+    (λ c κs. (omega (arith, (starts c.before.before).0), c.at_most_126-here.ensures, room c.before.before))
     (λ c. let h = few c.before.before.before.before.before in search rules)
-    (λ c. omega (arith, c.before.before.before.before.before.loop-test.true))
-    (λ c. let l = c.before.before.before.before.before.before in (
-      omega (arith, c.before.before.before.before.before.loop-test.true),
-      ap length c.before.before.put-block2.ensures ∙ length-written-from _ _ 512 _ ∙ l.loop.invariant.1,
-      (λ head old e. file-next head (start l).args.bits.now l.loop.k old l.loop.file _ (l.loop.invariant.2 head old e) c.before.before.put-block2.ensures),
+    (λ c. omega (arith, c.loop-k-test.true))
+    (λ c. let l = c in (
+      omega (arith, c.loop-k-test.true),
+      ap length c.put_block-in-loop-k.ensures ∙ length-written-from _ _ 512 _ ∙ l.loop-k.invariant.1,
+      (λ head old e. file-next head (start c.before.before.before.before.before.before).args.bits.now l.loop-k.k old l.loop-k.file _ (l.loop-k.invariant.2 head old e) c.put_block-in-loop-k.ensures),
     ))
     (λ c. kept c.before)
-    (λ c. let l = c.before in
-    let a = (start l).args in
-    l.loop.invariant.2 (head l) a.file.now (first l)
-    ∙ ap (λ (n : ℕ). written (file_byte (head l) a.bits.now) n a.file.now) (whole l.loop.k _ (le_antisymm l.loop.invariant.0 c.loop-test.false ∙ count-is l))))
+    (λ c. let l = c in
+    let a = (start c.before).args in
+    l.loop-k.invariant.2 (head c.before) a.file.now (first c.before)
+    ∙ ap (λ (n : ℕ). written (file_byte (head c.before) a.bits.now) n a.file.now) (whole l.loop-k.k _ (le_antisymm l.loop-k.invariant.0 c.loop-k-test.false ∙ count-is c.before))))

@@ -9,24 +9,24 @@ use Rattle.flash.proofs.BlockWords.{block-first, block-next, block_last, sum_fir
 use Rattle.flash.proofs.blocks.put_block.Statement.{statement}
 use Rattle.flash.proofs.blocks.put_block.Tie as tie
 
-abbrev invariant-loop : tie.invariant-loop
+abbrev invariant-loop : tie.invariant-loop-j
 invariant-loop words from count number file₀ at sum₀ j₀ file sum j =
     (j ≤ count)
     × (length file ≡ length file₀)
     × ((old : List ℕ) → file₀ ≡ written_from at (block_byte number (λ k. get_or words (from + k) 0)) 4 old → file ≡ written_from at (block_byte number (λ k. get_or words (from + k) 0)) (4 * (j + 1)) old)
     × (sum ≡ sum_to (front number (λ k. get_or words (from + k) 0)) (j + 1) % 4_294_967_296)
 
-abbrev decreases-loop : tie.decreases-loop
+abbrev decreases-loop : tie.decreases-loop-j
 decreases-loop words from count number file₀ at sum₀ j₀ file sum j = count - j
 
-abbrev invariant-loop2 : tie.invariant-loop2
+abbrev invariant-loop2 : tie.invariant-loop-j-2
 invariant-loop2 words from count number file₀ at sum j₀ file j =
     (j₀ ≤ j)
     × (j ≤ 126)
     × (length file ≡ length file₀)
     × ((old : List ℕ) → file₀ ≡ written_from at (block_byte number (λ k. get_or words (from + k) 0)) (4 * (j₀ + 1)) old → file ≡ written_from at (block_byte number (λ k. get_or words (from + k) 0)) (4 * (j + 1)) old)
 
-abbrev decreases-loop2 : tie.decreases-loop2
+abbrev decreases-loop2 : tie.decreases-loop-j-2
 decreases-loop2 words from count number file₀ at sum j₀ file j = 126 - j
 
 -- the words past the last add nothing to the sum
@@ -39,10 +39,10 @@ sum-all b contents j few none =
     ap (λ (s : ℕ). s % 4_294_967_296) (sym (sum_past (front b contents) (j + 1) (126 - j) rest) ∙ ap (sum_to (front b contents)) all)
 
 abbrev At : Type 0
-At = tie.At-loop invariant-loop decreases-loop invariant-loop2 decreases-loop2
+At = tie.At-loop-j invariant-loop decreases-loop invariant-loop2 decreases-loop2
 
 abbrev At2 : Type 0
-At2 = tie.At-loop2 invariant-loop decreases-loop invariant-loop2 decreases-loop2
+At2 = tie.At-loop-j-2 invariant-loop decreases-loop invariant-loop2 decreases-loop2
 
 module _ (c : At) where
   abbrev start : tie.Start invariant-loop decreases-loop invariant-loop2 decreases-loop2
@@ -52,34 +52,34 @@ module _ (c : At) where
   contents k = get_or start.args.words.now (start.args.from + k) 0
 
   -- the number is written, and the length is kept
-  first : c.before.before.before.put.new.0 ≡ written_from start.args.at (block_byte start.args.number contents) 4 start.args.file.now
-  first = block-first start.args.number contents start.args.at start.args.file.now _ c.before.before.before.put.ensures
+  first : c.put.new.file ≡ written_from start.args.at (block_byte start.args.number contents) 4 start.args.file.now
+  first = block-first start.args.number contents start.args.at start.args.file.now _ c.put.ensures
 
-  kept : length c.loop.file ≡ length start.args.file.now
-  kept = c.loop.invariant.1 ∙ ap length c.before.before.before.put.ensures ∙ length-written-from start.args.at (byte_of start.args.number) 4 start.args.file.now
+  kept : length c.loop-j.file ≡ length start.args.file.now
+  kept = c.loop-j.invariant.1 ∙ ap length c.put.ensures ∙ length-written-from start.args.at (byte_of start.args.number) 4 start.args.file.now
 
-  room : start.args.at + 512 ≤ length c.loop.file
-  room = omega (arith, kept, start.pre.2)
+  room : start.args.at + 512 ≤ length c.loop-j.file
+  room = omega (arith, kept, start.requires.2)
 
   -- past the last word there is none
   past : (k : ℕ) → start.args.count ≤ k → k < 126 → contents k ≡ 0
-  past k h l = get_or-eq_default start.args.words.now 0 (omega (arith, start.pre.1))
+  past k h l = get_or-eq_default start.args.words.now 0 (omega (arith, start.requires.1))
 
 module _ (c : At2) where
   abbrev before : At
   before = c.before.before
 
-  all_words : before.loop.j ≡ (start before).args.count
-  all_words = le_antisymm before.loop.inv.0 c.before.loop-test.false
+  all_words : before.loop-j.j ≡ (start before).args.count
+  all_words = le_antisymm before.loop-j.invariant.0 c.loop-j-test.false
 
-  kept2 : length c.loop2.file ≡ length (start before).args.file.now
-  kept2 = c.loop2.invariant.2 ∙ kept before
+  kept2 : length c.loop-j-2.file ≡ length (start before).args.file.now
+  kept2 = c.loop-j-2.invariant.2 ∙ kept before
 
-  room2 : (start before).args.at + 512 ≤ length c.loop2.file
-  room2 = omega (arith, kept2, (start before).pre.2)
+  room2 : (start before).args.at + 512 ≤ length c.loop-j-2.file
+  room2 = omega (arith, kept2, (start before).requires.2)
 
-pub put-block-spec : {M : Type 1} → statement M
-put-block-spec =
+pub put_block_spec : {M : Type 1} → statement M
+put_block_spec =
     tie.close
     (tie.spec
     invariant-loop
@@ -87,59 +87,59 @@ put-block-spec =
     invariant-loop2
     decreases-loop2
     (λ c κs. omega arith)
-    (λ c. let a = c.before.before.before.before.before.before.args in (
+    (λ c. let a = c.args in (
       omega arith,
       refl,
       (λ old e. e),
-      sum_first a.number (λ k. get_or a.words.now (a.from + k) 0) c.before.before.before.before.before.before.ranges.number.fits,
+      sum_first a.number (λ k. get_or a.words.now (a.from + k) 0) c.ranges.number.fits,
     ))
     (λ c. search rules)
     (λ c. search rules)
-    (λ c. omega (arith, (start c.before.before).pre.1, c.before.loop-test.true))
+    (λ c. omega (arith, (start c.before.before).requires.1, c.loop-j-test.true))
     (λ c. search rules)
     (λ c. search rules)
     (λ c. search rules)
-    (λ c κs. omega (arith, room c.before.before.before, c.before.before.loop-test.true, (start c.before.before.before).pre.1))
+    (λ c κs. omega (arith, room c.before.before.before, c.loop-j-test.true, (start c.before.before.before).requires.1))
     (λ c κs. search rules)
     (λ c. search rules)
-    (λ c. omega (arith, c.before.before.before.before.before.before.loop-test.true))
+    (λ c. omega (arith, c.loop-j-test.true))
     (λ c. let l = c.before.before.before.before.before.before.before in
     let a = (start l).args in
-    let low = c.before.before.before.before.before.before.loop-test.true in (
+    let low = c.loop-j-test.true in (
       omega (arith, low),
-      ap length c.before.before.before.put2.ensures ∙ length-written-from _ _ 4 _ ∙ l.loop.invariant.1,
+      ap length c.put-in-loop-j.ensures ∙ length-written-from _ _ 4 _ ∙ l.loop-j.invariant.1,
       (λ old e.
-          block-next a.number (contents l) a.at l.loop.j (contents l l.loop.j) old l.loop.file _ (omega (arith, low, (start l).requires.1)) (l.loop.invariant.2 old e) refl
-          c.before.before.before.put2.ensures),
-      check-next (front a.number (contents l)) (l.loop.j + 1) l.loop.sum (contents l l.loop.j) c.wrapping-add-u32.result l.loop.invariant.3
-          (sym (front-next a.number (contents l) l.loop.j)) c.wrapping-add-u32.ensures,
+          block-next a.number (contents l) a.at l.loop-j.j (contents l l.loop-j.j) old l.loop-j.file _ (omega (arith, low, (start l).requires.1)) (l.loop-j.invariant.2 old e) refl
+          c.put-in-loop-j.ensures),
+      check-next (front a.number (contents l)) (l.loop-j.j + 1) l.loop-j.sum (contents l l.loop-j.j) c.wrapping_add_u32-sum.result l.loop-j.invariant.3
+          (sym (front-next a.number (contents l) l.loop-j.j)) c.wrapping_add_u32-sum.ensures,
     ))
-    (λ c. (omega arith, omega (arith, c.before.loop.invariant.0, (start c.before).pre.1), refl, λ old e. e))
+    (λ c. (omega arith, omega (arith, c.loop-j.invariant.0, (start c.before).requires.1), refl, λ old e. e))
     (λ c. search rules)
     (λ c. search rules)
     (λ c. search rules)
-    (λ c κs. omega (arith, room2 c.before.before, c.before.loop2-test.true))
+    (λ c κs. omega (arith, room2 c.before.before, c.loop-j-2-test.true))
     (λ c. search rules)
-    (λ c. omega (arith, c.before.before.before.before.loop2-test.true))
+    (λ c. omega (arith, c.loop-j-2-test.true))
     (λ c. let l = c.before.before.before.before.before in
     let a = (start (before l)).args in
-    let low = c.before.before.before.before.loop2-test.true in (
-      omega (arith, l.loop2.invariant.0),
+    let low = c.loop-j-2-test.true in (
+      omega (arith, l.loop-j-2.invariant.0),
       omega (arith, low),
-      ap length c.before.before.put3.ensures ∙ length-written-from _ _ 4 _ ∙ l.loop2.invariant.2,
+      ap length c.put-in-loop-j-2.ensures ∙ length-written-from _ _ 4 _ ∙ l.loop-j-2.invariant.2,
       (λ old e.
-          block-next a.number (contents (before l)) a.at l.loop2.j 0 old l.loop2.file _ low (l.loop2.invariant.3 old e)
-          (sym (past (before l) l.loop2.j (omega (arith, l.loop2.invariant.0, all_words l)) low)) c.before.before.put3.ensures),
+          block-next a.number (contents (before l)) a.at l.loop-j-2.j 0 old l.loop-j-2.file _ low (l.loop-j-2.invariant.3 old e)
+          (sym (past (before l) l.loop-j-2.j (omega (arith, l.loop-j-2.invariant.0, all_words l)) low)) c.put-in-loop-j-2.ensures),
     ))
     (λ c. search rules)
     (λ c κs. omega (arith, room2 c.before.before))
-    (λ c. let l = c.before.before.before.before.before in ap length c.before.before.put4.ensures ∙ length-written-from _ _ 4 _ ∙ kept2 l)
+    (λ c. let l = c.before.before.before.before.before in ap length c.put-2.ensures ∙ length-written-from _ _ 4 _ ∙ kept2 l)
     (λ c. let l = c.before.before.before.before.before in
     let b = before l in
     let a = (start b).args in
-    let all : l.loop2.j ≡ 126 = le_antisymm l.loop2.invariant.1 c.before.before.before.before.loop2-test.false in
-    block_last a.number (contents b) a.at b.loop.sum a.file.now l.loop2.file _
-    (l.loop2.invariant.3 a.file.now (b.loop.inv.2 a.file.now (first b))
+    let all : l.loop-j-2.j ≡ 126 = le_antisymm l.loop-j-2.invariant.1 c.loop-j-2-test.false in
+    block_last a.number (contents b) a.at b.loop-j.sum a.file.now l.loop-j-2.file _
+    (l.loop-j-2.invariant.3 a.file.now (b.loop-j.invariant.2 a.file.now (first b))
     ∙ ap (λ (k : ℕ). written_from a.at (block_byte a.number (contents b)) (4 * (k + 1)) a.file.now) all)
-    (b.loop.inv.3 ∙ sum-all a.number (contents b) b.loop.j (omega (arith, all_words l, (start b).pre.1)) (λ k h s. past b k (omega (arith, all_words l)) s))
-    c.before.before.put4.ensures))
+    (b.loop-j.invariant.3 ∙ sum-all a.number (contents b) b.loop-j.j (omega (arith, all_words l, (start b).requires.1)) (λ k h s. past b k (omega (arith, all_words l)) s))
+    c.put-2.ensures))

@@ -4,8 +4,8 @@ use Rattle.flash.proofs.Fours.{joined_of}
 use Rattle.flash.proofs.words.joined.Statement.{statement}
 use Rattle.flash.proofs.words.joined.Tie as tie
 
-pub joined-spec : {M : Type 1} → statement M
-joined-spec =
+pub joined_spec : {M : Type 1} → statement M
+joined_spec =
     tie.close
     (tie.spec
     (λ c. search rules)

@@ -15,7 +15,7 @@ put_spec =
     (λ c κs. search rules)
     (λ c κs. search rules)
     (λ c. search rules)
-    (λ c. let a = c.before.before.before.before.before.before.args in
-    c.before.before.put-turned.ensures
-    ∙ ap (λ (w : ℕ). written_from a.at (last_byte w) 4 a.file.now) c.before.before.before.turned.ensures
+    (λ c. let a = c.args in
+    c.put_turned.ensures
+    ∙ ap (λ (w : ℕ). written_from a.at (last_byte w) 4 a.file.now) c.turned.ensures
     ∙ written-from-same a.at (last_byte (turned_word a.w)) (byte_of a.w) 4 a.file.now (turned-byte a.w)))

@@ -5,9 +5,9 @@ use Rattle.flash.specs.Turned.{last_byte}
 use Rattle.flash.proofs.words.put_turned.Statement.{statement}
 use Rattle.flash.proofs.words.put_turned.Tie as tie
 
-pub put-turned-spec : {M : Type 1} → statement M
+pub put_turned_spec : {M : Type 1} → statement M
 unfolding written_from last_byte
-put-turned-spec =
+put_turned_spec =
     tie.close
     (tie.spec
     (λ c. search rules)

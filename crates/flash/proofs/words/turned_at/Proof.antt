@@ -5,8 +5,8 @@ use Rattle.flash.proofs.Fours.{word-by, turned-joined}
 use Rattle.flash.proofs.words.turned_at.Statement.{statement}
 use Rattle.flash.proofs.words.turned_at.Tie as tie
 
-pub turned-at-spec : {M : Type 1} → statement M
-turned-at-spec =
+pub turned_at_spec : {M : Type 1} → statement M
+turned_at_spec =
     tie.close
     (tie.spec
     (λ c. search rules)
@@ -17,10 +17,10 @@ turned-at-spec =
     (λ c. search rules)
     (λ c. search rules)
     (λ c κs. search rules)
-    (λ c. let s = c.before.before.before.before.before.before in
+    (λ c. let s = c in
     let file = s.args.file.now in
     let at = s.args.at in
-    let byte : (i : ℕ) → get_or file i 0 < 256 = λ i. (c.before.before.before.before.before.shared-slice-known.given i).fits in
+    let byte : (i : ℕ) → get_or file i 0 < 256 = λ i. (c.shared_slice_known-1.given i).fits in
     ap turned_word c.joined.ensures
     ∙ turned-joined _ _ _ _ (byte at) (byte (at + 1)) (byte (at + 2)) (byte (at + 3))
     ∙ sym (word-by file at)))

@@ -44,7 +44,7 @@ claims t = (
 )
 
 -- where the last ink has its two parts
-module _ (t : ℕ) (c : value-lts.Else2 (claims t) (value-at t) value.Post) where
+module _ (t : ℕ) (c : value-lts.Else-n-eq3 (claims t) (value-at t) value.Post) where
   abbrev start : value-lts.Start (claims t) (value-at t) value.Post
   start = c.before.before.before
 
@@ -55,56 +55,56 @@ module _ (t : ℕ) (c : value-lts.Else2 (claims t) (value-at t) value.Post) wher
   cells = cells_at start.args.low.now start.args.high.now start.args.w.now
 
   lower : Rest start.args.part.now (get_or start.args.low.now i 0) (reach (cells i))
-  lower = rest-low _ _ _ _ _ c.before.if1.false start.good.0.1 start.pre.1.1
+  lower = rest-low _ _ _ _ _ c.if-n-eq0.false start.well_formed.0.1 start.requires.1.1
 
   upper : Rest start.args.part.now (get_or start.args.high.now i 0) (reach (cells i))
-  upper = rest-high _ _ _ _ _ c.before.if1.false start.good.0.1 start.pre.1.1
+  upper = rest-high _ _ _ _ _ c.if-n-eq0.false start.well_formed.0.1 start.requires.1.1
 
 -- what their answers are blended to
-module _ (t : ℕ) (c : value-lts.After-t (claims t) (value-at t) value.Post) where
-  abbrev parted : value-lts.Else2 (claims t) (value-at t) value.Post
-  parted = c.before.before.before.before.before.before.before
+module _ (t : ℕ) (c : value-lts.After-t-1 (claims t) (value-at t) value.Post) where
+  abbrev parted : value-lts.Else-n-eq3 (claims t) (value-at t) value.Post
+  parted = c.before.before.before.before.before.before.before.before.before
 
   abbrev s : value-lts.Start (claims t) (value-at t) value.Post
   s = start t parted
 
   blended :
-      blend s.args.n c.before.before.before.value.result c.before.value2.result (get_or s.args.w.now (i t parted) nan)
+      blend s.args.n c.value-lower.result c.value-upper.result (get_or s.args.w.now (i t parted) nan)
       ≡ answer s.args.part.now (cells t parted s.args.n) 0
   blended =
       by_last s.args.low.now s.args.high.now s.args.w.now s.args.part.now s.args.n
-      parted.before.if1.left parted.if2.left _ _ c.before.before.before.value.ensures c.before.value2.ensures
+      parted.if-n-eq0.false parted.if-n-eq3.false _ _ c.value-lower.ensures c.value-upper.ensures
 
-pub +value-spec : {M : Type 1} → statement M
-+value-spec =
+pub +value_spec : {M : Type 1} → statement M
++value_spec =
     close μ-value λ t. value-lts.spec (claims t)
     (value-at t)
     value.Post
     (λ c. omega arith)
-    (λ c. let a = c.before.before.before.args in
-    no-ink a.low.now a.high.now a.w.now a.part.now _ c.before.if1.true)
-    (λ c κs. rw c.if2.true at c.before.before.before.requires.1.1)
-    (λ c. let a = c.before.before.before.before.args in
+    (λ c. let a = c.args in
+    no-ink a.low.now a.high.now a.w.now a.part.now _ c.if-n-eq0.true)
+    (λ c κs. rw c.if-n-eq3.true at c.requires.1.1)
+    (λ c. let a = c.args in
     subst (λ (k : ℕ). c.three.result ≡ answer a.part.now (cells_at a.low.now a.high.now a.w.now k) 0)
-    (sym c.before.if2.true) c.three.ensures)
+    (sym c.if-n-eq3.true) c.three.ensures)
     (λ c. omega arith)
     (λ c. omega arith)
     (λ c. omega arith)
     (λ c. omega arith)
     (λ c. omega arith)
-    (λ c. (lower t c.before.before).bytes)
-    (λ c. (lower t c.before.before).starts)
-    (λ c. (lower t c.before.before).starts)
+    (λ c. (lower t c.before.before.before.before).bytes)
+    (λ c. (lower t c.before.before.before.before).starts)
+    (λ c. (lower t c.before.before.before.before).starts)
     (λ c. le_refl _)
-    (λ c κs. let s = c.before.before.before in (omega arith, (omega arith, (lower t s).inside)))
-    (λ c. (upper t c.before.before.before.before).bytes)
-    (λ c. (upper t c.before.before.before.before).starts)
-    (λ c. (upper t c.before.before.before.before).starts)
+    (λ c κs. (omega arith, (omega arith, (lower t c.before.before.before.before.before).inside)))
+    (λ c. (upper t c.before.before.before.before.before.before).bytes)
+    (λ c. (upper t c.before.before.before.before.before.before).starts)
+    (λ c. (upper t c.before.before.before.before.before.before).starts)
     (λ c. le_refl _)
-    (λ c κs. let s = c.before.before.before.before.before in (omega arith, (omega arith, (upper t s).inside)))
+    (λ c κs. (omega arith, (omega arith, (upper t c.before.before.before.before.before.before.before).inside)))
     (λ c. omega arith)
     (λ c. omega arith)
     (λ c κs. tt)
-    (λ c. c.along.ensures ∙ (rw (lt-ltb _ 3 c.before.if3.true) at (blended t c.before.before)))
+    (λ c. c.along.ensures ∙ (rw (lt-ltb _ 3 c.if-n-lt3.true) at (blended t c.before.before)))
     (λ c κs. tt)
-    (λ c. c.lerp.ensures ∙ (rw (le-ltb _ 3 c.before.if3.false) at (blended t c.before.before)))
+    (λ c. c.lerp.ensures ∙ (rw (le-ltb _ 3 c.if-n-lt3.false) at (blended t c.before.before)))

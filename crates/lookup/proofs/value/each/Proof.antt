@@ -11,24 +11,24 @@ use Rattle.lookup.proofs.Turns.{Turned, Turn, turned_none, a_turn, turned_more, 
 use Rattle.lookup.proofs.value.each.Statement.{statement}
 use Rattle.lookup.proofs.value.each.Tie as tie
 
-abbrev invariant-loop : tie.invariant-loop
+abbrev invariant-loop : tie.invariant-loop-o
 invariant-loop table low high w n m out₀ o₀ out o = Turned (answer table (cells_at low high w n)) m out₀ out o
 
-abbrev decreases-loop : tie.decreases-loop
+abbrev decreases-loop : tie.decreases-loop-o
 decreases-loop table low high w n m out₀ o₀ out o = m - o
 
-module _ (c : tie.In-loop invariant-loop decreases-loop) where
+module _ (c : tie.In-loop-o invariant-loop decreases-loop) where
   abbrev start : tie.Start invariant-loop decreases-loop
   start = c.before.before.before.before
 
   abbrev cells : List Cell
   cells = cells_at start.args.low.now start.args.high.now start.args.w.now start.args.n
 
-  rest : Rest start.args.table.now c.before.loop.o (reach cells)
-  rest = rest_at _ _ _ start.good.0.1 (omega (arith, c.loop-test.true, start.pre.1.0))
+  rest : Rest start.args.table.now c.loop-o.o (reach cells)
+  rest = rest_at _ _ _ start.well_formed.0.1 (omega (arith, c.loop-o-test.true, start.requires.1.0))
 
-  turn : Turn start.args.m c.before.loop.o (length c.before.loop.out)
-  turn = a_turn _ _ _ _ _ c.before.loop.invariant c.loop-test.true start.pre.1.1 start.good.1.1.1.1.1.1.0.1
+  turn : Turn start.args.m c.loop-o.o (length c.loop-o.out)
+  turn = a_turn _ _ _ _ _ c.loop-o.invariant c.loop-o-test.true start.requires.1.1 start.well_formed.1.1.1.1.1.1.0.1
 
 pub each_spec : {M : Type 1} → statement M
 each_spec =
@@ -41,13 +41,13 @@ each_spec =
     (λ c. (rest c).starts)
     (λ c. (rest c).starts)
     (λ c. le_refl _)
-    (λ c κs. ((start c.before).pre.0, (rest c.before).inside))
+    (λ c κs. ((start c.before).requires.0, (rest c.before).inside))
     (λ c. (turn c.before.before).bytes)
     (λ c. (turn c.before.before).inside)
     (λ c. (turn c.before.before).next)
     (λ c. (turn c.before.before).fewer)
-    (λ c. let l = c.before.before in
-    turned_more _ _ _ _ _ l.before.loop.invariant l.loop-test.true _
-    (from-output (start l).args.table.now l.before.loop.o (cells l) _ c.value.ensures))
-    (λ c. c.before.loop.invariant.room)
-    (λ c. turned-all _ _ _ _ _ c.before.loop.invariant c.loop-test.false))
+    (λ c. let l = c in
+    turned_more _ _ _ _ _ l.loop-o.invariant l.loop-o-test.true _
+    (from-output (start c.before.before).args.table.now l.loop-o.o (cells c.before.before) _ c.value.ensures))
+    (λ c. c.loop-o.invariant.room)
+    (λ c. turned-all _ _ _ _ _ c.loop-o.invariant c.loop-o-test.false))

@@ -15,4 +15,4 @@ entry_spec =
     (λ c. omega arith)
     (λ c. omega arith)
     (λ c. omega arith)
-    (λ c. ap (λ (i : ℕ). get_or c.before.args.part.now i nan) (omega arith)))
+    (λ c. ap (λ (i : ℕ). get_or c.args.part.now i nan) (omega arith)))

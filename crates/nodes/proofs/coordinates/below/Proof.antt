@@ -35,7 +35,7 @@ below_spec =
     (λ c. search rules)
     (λ c. omega arith)
     (λ c. omega arith)
-    (λ c. let s = c.before.before.before.before in tested s.args.sizes s.args.coordinates.now _ (in-grid-fails _ _ _ c.loop-i.i c.loop-i-test.true c.if-sizes-i.true))
+    (λ c. let s = c in tested s.args.sizes s.args.coordinates.now _ (in-grid-fails _ _ _ c.loop-i.i c.loop-i-test.true c.if-sizes-i.true))
     (λ c. omega arith)
     (λ c. omega arith)
     (λ c. (omega arith, below_more _ _ c.loop-i.invariant.1 c.if-sizes-i.false))
