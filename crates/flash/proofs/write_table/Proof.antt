@@ -1,4 +1,6 @@
 -- `flash::write_table` meets its contract. Assumes nothing.
+use mathlib.Core.Path.{ap}
+use mathlib.Core.Bool.{not}
 use Rattle.std.proofs.Common.{◌≡◌, ◌≤◌, ◌∙◌, arith, w8, rules}
 use borrow.Author.Rules.{Fits-under}
 use borrow.Author.Tests.{not-false}
@@ -22,7 +24,7 @@ write_table_spec =
     tie.close
     (tie.spec
     (λ c κs. search rules)
-    (λ c. let a = c.args in write-unlaid a.lut a.bits.now a.file.now _ c.is_layout.ensures c.if-not-is_layout.true)
+    (λ c. let a = c.args in write-unlaid a.lut a.bits.now a.file.now _ c.is_layout.ensures (ap not c.if-not-is_layout.true))
     (λ c κs. search rules)
     (λ c. Fits-under w8 _ 16 (omega (arith, inks-to _ (is-layout c.before.before))) tt)
     (λ c. Fits-under w8 _ 16 (omega (arith, outputs-to _ (is-layout c.before.before.before))) tt)

@@ -2,7 +2,7 @@
 -- Assumes nothing.
 use Prim.Native.Nat.{ℕ, ◌*◌, ◌≤◌, ◌<◌}
 use mathlib.Core.Path.{◌≡◌, sym, ap, subst, ◌∙◌}
-use mathlib.Core.Bool.{true}
+use mathlib.Core.Bool.{true, not}
 use mathlib.Core.List.{List}
 use lib.Ieee.{Float}
 use lib.ListN.{length}
@@ -90,14 +90,14 @@ lookup_spec =
     (tie.spec
     (λ c κs. tt)
     (λ c. let a = c.args in
-    looked-refused never a.lut a.table.now a.inputs.now a.answer.now _ c.is_layout.ensures c.if-not-is_layout.true)
+    looked-refused never a.lut a.table.now a.inputs.now a.answer.now _ c.is_layout.ensures (ap not c.if-not-is_layout.true))
     (λ c κs. tt)
     (λ c κs. tt)
     (λ c. refused c.before c.if-refusal-ne0.true)
     (λ c. short c.before.before c.if-refusal-ne0.false c.if-answer-m.true)
     (λ c κs. let fits = c in
-    let ok = ready fits.before.before fits.if-refusal-ne0.false in
+    let ok = ready c.before.before.before.before.before.before.before fits.if-refusal-ne0.false in
     (ok.0, (ok.1, fits.if-answer-m.false)))
     (λ c. ap length c.write.ensures.entries ∙ length-left c.write.result _ _ _)
     (λ c. let fits = c in
-    settled fits.before.before fits.if-refusal-ne0.false fits.if-answer-m.false _ _ c.write.ensures))
+    settled c.before.before.before.before.before.before.before.before.before.before fits.if-refusal-ne0.false fits.if-answer-m.false _ _ c.write.ensures))
