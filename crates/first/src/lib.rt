@@ -1,5 +1,6 @@
 // The first engine for C, for the tests alone: they ask it every lookup that they ask the library.
 #![tactic(auto)]
+
 ghost use Rattle.lookup.specs.Table.{LookedBySizes};
 
 // Lays out, then looks up by the first engine: refusals 1, 2, 3, 5, then 6, 7, 8, 16. On 0 the first m entries of `answer` are set.

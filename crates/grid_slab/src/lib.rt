@@ -1,5 +1,6 @@
 // Cutting out a slab: document 02, E1, with a size for each ink (E5). The meaning is in specs/Slab.antt.
 #![tactic(auto)]
+
 mod check;
 mod runs;
 

@@ -1,5 +1,6 @@
 // The probe program's work, on bytes: document 01, "The probe program". The meaning is in specs/Probe.antt.
 #![tactic(auto)]
+
 mod text;
 mod units;
 

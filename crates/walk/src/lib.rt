@@ -1,6 +1,7 @@
 // The lookup as a plain walk, without recursion: document 02, E7. Its answers and refusals are those of `lookup`. And the
 // lookup with skipping: E6.
 #![tactic(auto)]
+
 mod cells;
 mod corners;
 mod count;

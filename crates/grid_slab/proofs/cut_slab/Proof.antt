@@ -15,12 +15,12 @@ use Rattle.grid_slab.proofs.Cutting.{Passed, checked-passed, run_is, turn-some, 
 use Rattle.grid_slab.proofs.cut_slab.Statement.{statement}
 use Rattle.grid_slab.proofs.cut_slab.Tie as tie
 
-passed : (c : tie.Else1) → let a = c.before.before.before.before.args in Passed a.lut (length a.table.now) a.j a.k (length a.slab.now)
-passed c = checked-passed _ _ _ _ _ _ c.before.refused.ensures c.if1.false
+passed : (c : tie.Else-refusal-ne0) → let a = c.args in Passed a.lut (length a.table.now) a.j a.k (length a.slab.now)
+passed c = checked-passed _ _ _ _ _ _ c.refused-refusal.ensures c.if-refusal-ne0.false
 
 -- ---- a turn of ink j
 
-module _ (c : tie.After-entry-count) where
+module _ (c : tie.After-entry_count) where
   abbrev start : tie.Start
   start = c.before.before.before.before.before.before.before
 
@@ -38,8 +38,8 @@ module _ (c : tie.After-entry-count) where
   lines = size_of lut start.args.j
 
   -- the whole table, divided by a turn
-  turns : c.entry-count.result / (run * lines) ≡ turns_of lut start.args.j
-  turns = (λ i. (c.entry-count.ensures ∙ first-filling lut p.is) i / (run_is _ _ _ _ _ p i * lines)) ∙ turns-are _ _ _ _ _ p
+  turns : c.entry_count.result / (run * lines) ≡ turns_of lut start.args.j
+  turns = (λ i. (c.entry_count.ensures ∙ first-filling lut p.is) i / (run_is _ _ _ _ _ p i * lines)) ∙ turns-are _ _ _ _ _ p
 
   within : run * lines ≤ limit
   within = subst (λ (run : ℕ). run * lines ≤ limit) (sym (run_is _ _ _ _ _ p)) (turn-within _ _ _ _ _ p)
@@ -47,21 +47,21 @@ module _ (c : tie.After-entry-count) where
   some : 0 < run * lines
   some = subst (λ (run : ℕ). 0 < run * lines) (sym (run_is _ _ _ _ _ p)) (turn-some _ _ _ _ _ p)
 
-  fit : Fit (length start.args.table.now) (length start.args.slab.now) run lines start.args.k (c.entry-count.result / (run * lines))
+  fit : Fit (length start.args.table.now) (length start.args.slab.now) run lines start.args.k (c.entry_count.result / (run * lines))
   fit =
       subst (Fit _ _ run lines start.args.k) (sym turns)
       (subst (λ (run : ℕ). Fit (length start.args.table.now) (length start.args.slab.now) run lines start.args.k (turns_of lut start.args.j)) (sym (run_is _ _ _ _ _ p)) (turns_fit _ _ _ _ _ p))
 
 -- ink j is among the inks of the record
-in-record : (c : tie.Else1) → let a = c.before.before.before.before.args in (1 ≤ a.j) × (a.j ≤ 15)
+in-record : (c : tie.Else-refusal-ne0) → let a = c.args in (1 ≤ a.j) × (a.j ≤ 15)
 in-record c = let p = passed c in (p.from, omega (arith, p.to, inks-to _ p.is))
 
-pub cut-slab-spec : {M : Type 1} → statement M
-cut-slab-spec =
+pub cut_slab_spec : {M : Type 1} → statement M
+cut_slab_spec =
     tie.close
     (tie.spec
     (λ c κs. search rules)
-    (λ c. let a = c.before.before.before.before.args in cut-refused a.lut a.table.now a.j a.k a.slab.now _ c.before.refused.ensures c.if1.true)
+    (λ c. let a = c.args in cut-refused a.lut a.table.now a.j a.k a.slab.now _ c.refused-refusal.ensures c.if-refusal-ne0.true)
     (λ c. omega (arith, in-record c.before))
     (λ c. let here = in-record c.before in search rules)
     (λ c. omega (arith, in-record c.before))
@@ -74,9 +74,9 @@ cut-slab-spec =
     (λ c. some c)
     (λ c κs. fit c.before)
     (λ c. search rules)
-    (λ c. let counted = c.before.before.before.before in
-    let a = (start counted).args in
-    let run = run_is _ _ _ _ _ (p counted) in
-    let else1 = counted.before.before.before in
-    cut-done a.lut a.table.now a.j a.k a.slab.now _ else1.before.refused.ensures else1.if1.false _
-    (c.before.before.cut.ensures ∙ (λ i. written (cut_entry a.table.now (run i) (lines counted) a.k) (turns counted i * run i) a.slab.now) ∙ runs-slab a.lut a.table.now a.j a.k a.slab.now (p counted))))
+    (λ c. let counted = c in
+    let a = (start c.before.before.before.before).args in
+    let run = run_is _ _ _ _ _ (p c.before.before.before.before) in
+    let else1 = c in
+    cut-done a.lut a.table.now a.j a.k a.slab.now _ else1.refused-refusal.ensures else1.if-refusal-ne0.false _
+    (c.cut.ensures ∙ (λ i. written (cut_entry a.table.now (run i) (lines c.before.before.before.before) a.k) (turns c.before.before.before.before i * run i) a.slab.now) ∙ runs-slab a.lut a.table.now a.j a.k a.slab.now (p c.before.before.before.before))))

@@ -6,13 +6,13 @@ use Rattle.probing.proofs.Stores.{rest-drop}
 use Rattle.probing.proofs.from.Statement.{statement}
 use Rattle.probing.proofs.from.Tie as tie
 
-pub from-spec : {M : Type 1} → statement M
-from-spec =
+pub from_spec : {M : Type 1} → statement M
+from_spec =
     tie.close
     (tie.spec
     (λ c. search rules)
     (λ c. search rules)
     (λ c. search rules)
-    (λ c. let start = c.before.before in rest-drop start.args.place start.args.bytes.now)
+    (λ c. let start = c in rest-drop start.args.place start.args.bytes.now)
     (λ c. search rules)
-    (λ c. let start = c.before.before in sym (drop_of_length-le start.args.bytes.now c.before.if1.false)))
+    (λ c. let start = c in sym (drop_of_length-le start.args.bytes.now c.if-place-bytes.false)))

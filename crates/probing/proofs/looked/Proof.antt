@@ -6,8 +6,8 @@ use Rattle.probing.specs.Probe.{code_of}
 use Rattle.probing.proofs.looked.Statement.{statement}
 use Rattle.probing.proofs.looked.Tie as tie
 
-pub looked-spec : {M : Type 1} → statement M
-looked-spec =
+pub looked_spec : {M : Type 1} → statement M
+looked_spec =
     tie.close
     (tie.spec
     (λ c. search rules)
@@ -15,9 +15,9 @@ looked-spec =
     (λ c. search rules)
     (λ c κs. search rules)
     (λ c. search rules)
-    (λ c. sym (ap length c.before.before.units2.ensures ∙ length-map c.before.before.before.before.before.before.before.before.before.before.args.table.now code_of))
+    (λ c. sym (ap length c.units-2.ensures ∙ length-map c.args.table.now code_of))
     (λ c. search rules)
-    (λ c. sym (ap length c.before.before.before.before.before.before.units.ensures ∙ length-map c.before.before.before.before.before.before.before.before.before.before.before.args.codes.now code_of))
+    (λ c. sym (ap length c.units.ensures ∙ length-map c.args.codes.now code_of))
     (λ c κs. search rules)
     (λ c. search rules)
-    (λ c. rw (c.before.before.before.before.before.before.before.before.before.before.units.ensures, c.before.before.before.before.before.before.before.units2.ensures) at c.before.before.lookup.ensures))
+    (λ c. rw (c.units.ensures, c.units-2.ensures) at c.lookup.ensures))

@@ -14,49 +14,49 @@ use Rattle.probing.proofs.probed.Statement.{statement}
 use Rattle.probing.proofs.probed.Tie as tie
 
 -- once the layout is asked
-asked : (c : tie.After-layout)
-    → Asked c.before.before.before.before.before.before.args.input.now c.before.before.before.before.first.result.now c.before.before.before.byte_at.result c.before.before.byte-at2.result c.before.byte-at3.result c.layout.result
+asked : (c : tie.After-layout-laid)
+    → Asked c.args.input.now c.first-bytes.result.now c.byte_at-g.result c.byte_at-n.result c.byte_at-m.result c.layout-laid.result
 asked c =
     record {
-      bytes-are = c.before.before.before.before.first.ensures;
-      g-is = c.before.before.before.byte_at.ensures;
-      n-is = c.before.before.byte-at2.ensures;
-      m-is = c.before.byte-at3.ensures;
-      laid-is = c.layout.ensures.answer;
+      bytes-are = c.first-bytes.ensures;
+      g-is = c.byte_at-g.ensures;
+      n-is = c.byte_at-n.ensures;
+      m-is = c.byte_at-m.ensures;
+      laid-is = c.layout-laid.ensures.answer;
     }
 
-byte : (c : tie.After-layout) → c.before.before.before.byte_at.result < 256
+byte : (c : tie.After-layout-laid) → c.byte_at-g.result < 256
 byte c = omega arith
 
 -- once the layout has accepted
-module _ (c : tie.Else1) where
-  inks : c.before.before.before.byte-at2.result ≤ 15
-  inks = inks-up-to (asked c.before) (byte c.before) c.if1.false
+module _ (c : tie.Else-refusal-ne0) where
+  inks : c.byte_at-n.result ≤ 15
+  inks = inks-up-to (asked c.before) (byte c.before) c.if-refusal-ne0.false
 
-  outputs : (1 ≤ c.before.before.byte-at3.result) × (c.before.before.byte-at3.result ≤ 15)
-  outputs = outputs-up-to (asked c.before) (byte c.before) c.if1.false
+  outputs : (1 ≤ c.byte_at-m.result) × (c.byte_at-m.result ≤ 15)
+  outputs = outputs-up-to (asked c.before) (byte c.before) c.if-refusal-ne0.false
 
 -- once the lookup has answered
-module _ (c : tie.After-looked) where
-  refuses : (c.looked.result ≡ 0 → ⊥) → probe_output c.before.before.before.before.before.before.before.before.before.before.before.before.before.args.input.now ≡ report c.looked.result []
+module _ (c : tie.After-looked-number) where
+  refuses : (c.looked-number.result ≡ 0 → ⊥) → probe_output c.args.input.now ≡ report c.looked-number.result []
   refuses h =
       let laid = c.before.before.before.before.before.before.before in
-      lookup-refuses (asked laid) (byte laid) c.before.before.before.before.before.before.if1.false c.before.before.before.before.before.from.ensures c.before.before.before.first2.ensures c.before.before.from2.ensures refl c.looked.ensures h
+      lookup-refuses (asked laid) (byte laid) c.if-refusal-ne0.false c.from-rest.ensures c.first.ensures c.from.ensures refl c.looked-number.ensures h
 
-  answers : c.looked.result ≡ 0 → probe_output c.before.before.before.before.before.before.before.before.before.before.before.before.before.args.input.now ≡ report 0 (take c.before.before.before.before.before.before.before.before.byte-at3.result c.looked.new.1.1.1.0)
+  answers : c.looked-number.result ≡ 0 → probe_output c.args.input.now ≡ report 0 (take c.byte_at-m.result c.looked-number.new.answers)
   answers h =
       let laid = c.before.before.before.before.before.before.before in
-      lookup-answers (asked laid) (byte laid) c.before.before.before.before.before.before.if1.false c.before.before.before.before.before.from.ensures c.before.before.before.first2.ensures c.before.before.from2.ensures refl c.looked.ensures h
+      lookup-answers (asked laid) (byte laid) c.if-refusal-ne0.false c.from-rest.ensures c.first.ensures c.from.ensures refl c.looked-number.ensures h
 
-  room : length c.looked.new.1.1.1.0 ≡ 15
-  room = ap length c.looked.ensures.entries ∙ length-left c.looked.result _ _ _
+  room : length c.looked-number.new.answers ≡ 15
+  room = ap length c.looked-number.ensures.entries ∙ length-left c.looked-number.result _ _ _
 
   -- as many answers as outputs
-  count : length (take c.before.before.before.before.before.before.before.before.byte-at3.result c.looked.new.1.1.1.0) ≡ c.before.before.before.before.before.before.before.before.byte-at3.result
+  count : length (take c.byte_at-m.result c.looked-number.new.answers) ≡ c.byte_at-m.result
   count = length-take-le _ _ (omega (arith, room, outputs c.before.before.before.before.before.before))
 
-pub probed-spec : {M : Type 1} → statement M
-probed-spec =
+pub probed_spec : {M : Type 1} → statement M
+probed_spec =
     tie.close
     (tie.spec
     (λ c κs. search rules)
@@ -67,17 +67,17 @@ probed-spec =
     (λ c. search rules)
     (λ c κs. search rules)
     (λ c κs. search rules)
-    (λ c. probed-of (layout-refuses (asked c.before.before.before) c.before.before.if1.true) c.refused.ensures (omega (arith, refusal-fits c.before.before.before.layout.result.refusal (omega arith))))
+    (λ c. probed-of (layout-refuses (asked c.before.before.before) c.if-refusal-ne0.true) c.refused.ensures (omega (arith, refusal-fits c.layout-laid.result.refusal (omega arith))))
     (λ c κs. search rules)
     (λ c κs. search rules)
     (λ c κs. search rules)
     (λ c. search rules)
-    (λ c κs. let laid = c.before.before.before.before.before in
-    (omega (arith, inks laid, ap length c.before.before.first2.ensures, length-take c.before.before.before.before.before.before.before.before.byte-at2.result c.before.before.before.before.from.result.now), table_fits c.before.before.before.before.before.before.before.before.before.before.before.before.args.input.now c.before.before.before.before.before.before.before.before.byte-at2.result c.before.from2.ensures c.before.before.before.before.from.ensures c.before.before.before.before.before.before.before.before.before.before.first.ensures))
+    (λ c κs. let laid = c in
+    (omega (arith, inks c.before.before.before.before.before, ap length c.first.ensures, length-take c.byte_at-n.result c.from-rest.result.now), table_fits c.args.input.now c.byte_at-n.result c.from.ensures c.from-rest.ensures c.first-bytes.ensures))
     (λ c κs. search rules)
-    (λ c. probed-of (refuses c.before.before.before.before c.before.before.if2.true) c.refused2.ensures (omega (arith, refusal-fits c.before.before.before.before.looked.result (omega arith))))
+    (λ c. probed-of (refuses c.before.before.before.before c.if-number-ne0.true) c.refused-then-number-ne0.ensures (omega (arith, refusal-fits c.looked-number.result (omega arith))))
     (λ c. omega (arith, room c.before.before, outputs c.before.before.before.before.before.before.before.before))
     (λ c. sym (count c.before.before.before))
     (λ c κs. omega (arith, count c.before.before.before.before, outputs c.before.before.before.before.before.before.before.before.before.before))
-    (λ c. let looked = c.before.before.before.before.before in
-    probed-of (answers looked c.before.before.before.if2.false) c.accepted.ensures (omega (arith, answers-fit (take c.before.before.before.before.before.before.before.before.before.before.before.before.before.byte-at3.result looked.looked.new.1.1.1.0) (omega (arith, count looked, outputs c.before.before.before.before.before.before.before.before.before.before.before)) (omega (arith, count looked, outputs c.before.before.before.before.before.before.before.before.before.before.before))))))
+    (λ c. let looked = c in
+    probed-of (answers c.before.before.before.before.before c.if-number-ne0.false) c.accepted.ensures (omega (arith, answers-fit (take c.byte_at-m.result looked.looked-number.new.answers) (omega (arith, count c.before.before.before.before.before, outputs c.before.before.before.before.before.before.before.before.before.before.before)) (omega (arith, count c.before.before.before.before.before, outputs c.before.before.before.before.before.before.before.before.before.before.before))))))

@@ -28,9 +28,9 @@ total-fits : (s g : ℕ) → s < 4_294_967_296 → g < 256 → Fits w64 (s * g)
 total-fits s g wide byte = Fits-le (mul-le-mul {n₂ = 2 ^ 32 - 1} {m₂ = 255} (omega arith) (omega arith)) (Fits-lit tt)
 
 -- after the tests of the lengths
-module _ (c : tie.After-length-refusal) where
+module _ (c : tie.After-length_refusal-refusal) where
   abbrev start : tie.Start
-  start = c.before.before.before.before.before.before
+  start = c.before.before.before.before.before.before.before.before
 
   abbrev skip : Float → Bool
   skip = skip_of start.args.skipping
@@ -39,16 +39,16 @@ module _ (c : tie.After-length-refusal) where
   gs = last_first start.args.n start.args.sizes.now
 
   -- the number, by the total as the definition has it
-  number : c.length-refusal.result ≡ length_refusal (product gs * start.args.m) start.args.n (length start.args.table.now) (length start.args.inputs.now) 0
-  number = c.length-refusal.ensures ∙ ap (λ (t : ℕ). length_refusal t start.args.n (length start.args.table.now) (length start.args.inputs.now) 0) start.pre.whole
+  number : c.length_refusal-refusal.result ≡ length_refusal (product gs * start.args.m) start.args.n (length start.args.table.now) (length start.args.inputs.now) 0
+  number = c.length_refusal-refusal.ensures ∙ ap (λ (t : ℕ). length_refusal t start.args.n (length start.args.table.now) (length start.args.inputs.now) 0) start.requires.whole
 
-  module _ (none : c.length-refusal.result ≡ 0) where
+  module _ (none : c.length_refusal-refusal.result ≡ 0) where
     ok : Passed true (product gs * start.args.m) start.args.n (length start.args.table.now) (length start.args.inputs.now)
     ok = answered-passed skip gs start.args.n start.args.m start.args.table.now start.args.inputs.now start.args.answer.now _ number none
 
     -- as `write` has it, by the number of inputs
     laid : Promised start.args.filling.now start.args.sizes.now (length start.args.inputs.now) start.args.m
-    laid = subst (λ (k : ℕ). Promised start.args.filling.now start.args.sizes.now k start.args.m) (sym ok.as_many) start.pre
+    laid = subst (λ (k : ℕ). Promised start.args.filling.now start.args.sizes.now k start.args.m) (sym ok.as_many) start.requires
 
     enough : product (last_first (length start.args.inputs.now) start.args.sizes.now) * start.args.m ≤ length start.args.table.now
     enough = subst (λ (k : ℕ). product (last_first k start.args.sizes.now) * start.args.m ≤ length start.args.table.now) (sym ok.as_many) ok.enough
@@ -76,32 +76,32 @@ module _ (c : tie.After-length-refusal) where
     refused-counts _ r k is some none,
   )
 
-pub answered-spec : {M : Type 1} → statement M
-answered-spec =
+pub answered_spec : {M : Type 1} → statement M
+answered_spec =
     tie.close
     (tie.spec
     (λ c. lit< tt)
-    (λ c. let s = c.before.before.before.before in Fits-under _ _ _ (s.requires.narrow 0 s.requires.inks-from).0 tt)
+    (λ c. let s = c in Fits-under _ _ _ (s.requires.narrow 0 s.requires.inks-from).0 tt)
     (λ c. lit< tt)
-    (λ c. let s = c.before.before.before.before.before in Fits-under _ _ _ (s.requires.narrow 0 s.requires.inks-from).1 tt)
-    (λ c. let s = c.before.before.before.before.before in total-fits _ _ (s.requires.narrow 0 s.requires.inks-from).0 (s.requires.narrow 0 s.requires.inks-from).1)
+    (λ c. let s = c in Fits-under _ _ _ (s.requires.narrow 0 s.requires.inks-from).1 tt)
+    (λ c. let s = c in total-fits _ _ (s.requires.narrow 0 s.requires.inks-from).0 (s.requires.narrow 0 s.requires.inks-from).1)
     (λ c κs. tt)
     (λ c κs. tt)
-    (λ c. let here = c.before.before in
-    let s = start here in
-    refused here _ c.tally.result c.tally.ensures.0 c.before.if1.true c.tally.ensures.1
-    (answered-refused (skip here) (gs here) s.args.n s.args.m s.args.table.now s.args.inputs.now s.args.answer.now _ (number here) c.before.if1.true))
+    (λ c. let here = c in
+    let s = start c.before.before in
+    refused c.before.before _ c.tally.result c.tally.ensures.0 c.if-refusal-ne0.true c.tally.ensures.1
+    (answered-refused (skip c.before.before) (gs c.before.before) s.args.n s.args.m s.args.table.now s.args.inputs.now s.args.answer.now _ (number c.before.before) c.if-refusal-ne0.true))
     (λ c κs. tt)
-    (λ c. let here = c.before.before.before in
-    let s = start here in
-    refused here 8 c.tally2.result c.tally2.ensures.0 (λ z. omega arith) c.tally2.ensures.1
-    (answered-short (skip here) (gs here) s.args.n s.args.m s.args.table.now s.args.inputs.now s.args.answer.now _ (number here) c.before.before.if1.false c.before.if2.true))
-    (λ c κs. let none = c.before.before.if1.false in
-    (laid c.before.before.before none, (enough c.before.before.before none, c.before.if2.false)))
-    (λ c. ap length c.before.before.write.ensures.0.entries ∙ length-left c.before.before.write.result.refusal _ _ _)
-    (λ c. let here = c.before.before.before.before.before.before in
-    let s = start here in
-    let none = c.before.before.before.before.before.if1.false in (
-      answered-blended (skip here) (gs here) s.args.n s.args.m s.args.table.now s.args.inputs.now s.args.answer.now _ (number here) none c.before.before.before.before.if2.false _ _ (blended here none _ _ c.before.before.write.ensures.0),
-      counted here none c.before.before.write.result c.before.before.write.ensures.1,
+    (λ c. let here = c in
+    let s = start c.before.before.before in
+    refused c.before.before.before 8 c.tally-then-answer-m.result c.tally-then-answer-m.ensures.0 (λ z. omega arith) c.tally-then-answer-m.ensures.1
+    (answered-short (skip c.before.before.before) (gs c.before.before.before) s.args.n s.args.m s.args.table.now s.args.inputs.now s.args.answer.now _ (number c.before.before.before) c.if-refusal-ne0.false c.if-answer-m.true))
+    (λ c κs. let none = c.if-refusal-ne0.false in
+    (laid c.before.before.before none, (enough c.before.before.before none, c.if-answer-m.false)))
+    (λ c. ap length c.write.ensures.0.entries ∙ length-left c.write.result.refusal _ _ _)
+    (λ c. let here = c in
+    let s = start c.before.before.before.before.before.before in
+    let none = c.if-refusal-ne0.false in (
+      answered-blended (skip c.before.before.before.before.before.before) (gs c.before.before.before.before.before.before) s.args.n s.args.m s.args.table.now s.args.inputs.now s.args.answer.now _ (number c.before.before.before.before.before.before) none c.if-answer-m.false _ _ (blended here none _ _ c.write.ensures.0),
+      counted here none c.write.result c.write.ensures.1,
     )))

@@ -17,31 +17,31 @@ use Rattle.walk.proofs.looked.Statement.{statement}
 use Rattle.walk.proofs.looked.Tie as tie
 
 -- no layout's record
-returns : tie.Need-returns
+returns : tie.Need-returns-then-not-is_layout
 returns c =
-    let s = c.before.before.before.before.before.before in
+    let s = c in
     let skip : Float → Bool = skip_of s.args.skipping in (
       subst (λ (r : ℕ). LookedWith skip s.args.lut s.args.table.now s.args.inputs.now s.args.answer.now r s.args.answer.now) (sym c.tally.ensures.0)
-          (looked-refused skip s.args.lut s.args.table.now s.args.inputs.now s.args.answer.now _ c.before.before.is-layout.ensures c.before.if1.true),
+          (looked-refused skip s.args.lut s.args.table.now s.args.inputs.now s.args.answer.now _ c.is_layout.ensures c.if-not-is_layout.true),
       refused-counts _ c.tally.result 9 c.tally.ensures.0 (λ z. omega arith) c.tally.ensures.1,
     )
 
 -- after an accepted layout
-returns-2 : tie.Need-returns-2
+returns-2 : tie.Need-returns
 unfolding reads_at
 returns-2 c =
-    let s = c.before.before.before.before.before.before.before.before.before.before.before.before.before in (
-      looked-answered (skip_of s.args.skipping) s.args.lut s.args.table.now s.args.inputs.now s.args.answer.now _ c.before.before.before.before.before.before.before.before.before.is-layout.ensures (not-false _ c.before.before.before.before.before.before.before.before.if1.false) _ _ c.before.before.answered.ensures.0,
-      c.before.before.answered.ensures.1,
+    let s = c in (
+      looked-answered (skip_of s.args.skipping) s.args.lut s.args.table.now s.args.inputs.now s.args.answer.now _ c.is_layout.ensures c.if-not-is_layout.false _ _ c.answered.ensures.0,
+      c.answered.ensures.1,
     )
 
-pub looked-spec : {M : Type 1} → statement M
-looked-spec =
+pub looked_spec : {M : Type 1} → statement M
+looked_spec =
     tie.close
     (tie.spec
     (λ c κs. tt)
     (λ c κs. tt)
     returns
-    (λ c κs. laid-of _ (c.before.before.before.before.before.before.is-layout.ensures.holds (not-false _ c.before.before.before.before.before.if1.false)))
-    (λ c. ap length c.before.before.answered.ensures.0.entries ∙ length-left c.before.before.answered.result.refusal _ _ _)
+    (λ c κs. laid-of _ (c.is_layout.ensures.holds c.if-not-is_layout.false))
+    (λ c. ap length c.answered.ensures.0.entries ∙ length-left c.answered.result.refusal _ _ _)
     returns-2)

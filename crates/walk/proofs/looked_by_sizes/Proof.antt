@@ -10,34 +10,34 @@ use Rattle.walk.proofs.looked_by_sizes.Statement.{statement}
 use Rattle.walk.proofs.looked_by_sizes.Tie as tie
 
 -- a refused layout
-returns : tie.Need-returns
+returns : tie.Need-returns-then-refusal-ne0
 returns c =
-    let some = c.before.if1.true in
-    let number = refused-first _ _ some c.before.before.filling-sizes.ensures.number in (
+    let some = c.if-refusal-ne0.true in
+    let number = refused-first _ _ some c.filling_sizes-refusal.ensures.number in (
       record { number = c.tally.ensures.0 ∙ number; entries = unwritten _ _ _ _ some number },
       refused-counts _ c.tally.result _ c.tally.ensures.0 some c.tally.ensures.1,
     )
 
 -- an accepted one
-returns-2 : tie.Need-returns-2
+returns-2 : tie.Need-returns
 returns-2 c =
-    let s = c.before.before.before.before.before.before.before.before.before.before.before in
-    let filled = c.before.before.before.before.before.before.filling-sizes.ensures in
-    let none = sym filled.number ∙ c.before.before.before.before.before.if1.false in (
-      looked-by-sizes s.args.sizes.now s.args.n s.args.m none (skip_of s.args.skipping) s.args.table.now s.args.inputs.now s.args.answer.now _ _ c.before.before.answered.ensures.0,
-      counted-by-sizes s.args.sizes.now s.args.n s.args.m none (skip_of s.args.skipping) s.args.inputs.now c.before.before.answered.result c.before.before.answered.ensures.1,
+    let s = c in
+    let filled = c.filling_sizes-refusal.ensures in
+    let none = sym filled.number ∙ c.if-refusal-ne0.false in (
+      looked-by-sizes s.args.sizes.now s.args.n s.args.m none (skip_of s.args.skipping) s.args.table.now s.args.inputs.now s.args.answer.now _ _ c.answered.ensures.0,
+      counted-by-sizes s.args.sizes.now s.args.n s.args.m none (skip_of s.args.skipping) s.args.inputs.now c.answered.result c.answered.ensures.1,
     )
 
-pub looked-by-sizes-spec : {M : Type 1} → statement M
-looked-by-sizes-spec =
+pub looked_by_sizes_spec : {M : Type 1} → statement M
+looked_by_sizes_spec =
     tie.close
     (tie.spec
     (λ c κs. tt)
     (λ c κs. tt)
     returns
-    (λ c κs. let s = c.before.before.before.before.before.before.before.before in
-    let filled = c.before.before.before.filling-sizes.ensures in
-    let done = c.before.before.if1.false in
+    (λ c κs. let s = c in
+    let filled = c.filling_sizes-refusal.ensures in
+    let done = c.if-refusal-ne0.false in
     laid-by-sizes s.args.sizes.now s.args.n s.args.m (sym filled.number ∙ done) (filled.laid done) _ (filled.row ∙ sym (given _ _ _ (sym done ∙ filled.number))))
-    (λ c. ap length c.before.before.answered.ensures.0.entries ∙ length-left c.before.before.answered.result.refusal _ _ _)
+    (λ c. ap length c.answered.ensures.0.entries ∙ length-left c.answered.result.refusal _ _ _)
     returns-2)

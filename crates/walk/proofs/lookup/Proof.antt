@@ -3,10 +3,10 @@ use Rattle.lookup.proofs.Refusals.{looked-length}
 use Rattle.walk.proofs.lookup.Statement.{statement}
 use Rattle.walk.proofs.lookup.Tie as tie
 
-pub lookup-spec : {M : Type 1} → statement M
-lookup-spec =
+pub lookup_spec : {M : Type 1} → statement M
+lookup_spec =
     tie.close
     (tie.spec
     (λ c κs. tt)
-    (λ c. looked-length c.before.before.looked.ensures.0)
-    (λ c. c.before.before.looked.ensures.0))
+    (λ c. looked-length c.looked.ensures.0)
+    (λ c. c.looked.ensures.0))

@@ -4,11 +4,11 @@ use Rattle.grid_slab.specs.Slab.{is_ink}
 use Rattle.grid_slab.proofs.check.no_cut.Statement.{statement}
 use Rattle.grid_slab.proofs.check.no_cut.Tie as tie
 
-pub no-cut-spec : {M : Type 1} → statement M
+pub no_cut_spec : {M : Type 1} → statement M
 unfolding is_ink
-no-cut-spec =
+no_cut_spec =
     tie.close
     (tie.spec
-    (λ c. simp (lt-leb 1 _ c.if1.true))
-    (λ c. simp (le-leb 1 _ c.before.if1.false, lt-leb _ _ c.if2.true))
-    (λ c. simp (le-leb 1 _ c.before.if1.false, le-leb _ _ c.if2.false)))
+    (λ c. simp (lt-leb 1 _ c.if-j-lt1.true))
+    (λ c. simp (le-leb 1 _ c.if-j-lt1.false, lt-leb _ _ c.if-n-j.true))
+    (λ c. simp (le-leb 1 _ c.if-j-lt1.false, le-leb _ _ c.if-n-j.false)))

@@ -16,76 +16,76 @@ use Rattle.grid_slab.proofs.Cutting.{may-cut}
 use Rattle.grid_slab.proofs.check.refused.Statement.{statement}
 use Rattle.grid_slab.proofs.check.refused.Tie as tie
 
-number : (c : tie.After-is-layout) (r : ℕ) →
-    let a = c.before.args in r ≡ refusal c.is-layout.result a.lut a.table a.j a.k a.room → Checked a.lut a.table a.j a.k a.room r
-number c r is = record { laid = c.is-layout.result; decides = c.is-layout.ensures; number = is }
+number : (c : tie.After-is_layout) (r : ℕ) →
+    let a = c.args in r ≡ refusal c.is_layout.result a.lut a.table a.j a.k a.room → Checked a.lut a.table a.j a.k a.room r
+number c r is = record { laid = c.is_layout.result; decides = c.is_layout.ensures; number = is }
 
-is-layout : (c : tie.Else1) → IsLayout c.before.before.args.lut
-is-layout c = c.before.is-layout.ensures.holds (not-false _ c.if1.false)
+is-layout : (c : tie.Else-not-is_layout) → IsLayout c.args.lut
+is-layout c = c.is_layout.ensures.holds c.if-not-is_layout.false
 
-total-is : (c : tie.After-entry-count) → c.entry-count.result ≡ entries c.before.before.before.args.lut
-total-is c = c.entry-count.ensures ∙ first-filling _ (is-layout c.before)
+total-is : (c : tie.After-entry_count-total) → c.entry_count-total.result ≡ entries c.args.lut
+total-is c = c.entry_count-total.ensures ∙ first-filling _ (is-layout c.before)
 
-enough : (c : tie.Else2) → ltb c.before.before.before.before.args.table (entries c.before.before.before.before.args.lut) ≡ false
-enough c = ap (ltb c.before.before.before.before.args.table) (sym (total-is c.before)) ∙ le-ltb _ _ c.if2.false
+enough : (c : tie.Else-table-total) → ltb c.args.table (entries c.args.lut) ≡ false
+enough c = ap (ltb c.args.table) (sym (total-is c.before)) ∙ le-ltb _ _ c.if-table-total.false
 
-ink : (c : tie.Else3) → let a = c.before.before.before.before.before.before.args in (not (is_ink a.j a.lut.input_inks) || eqb a.lut.input_inks 1) ≡ false
-ink c = sym c.before.no_cut.ensures ∙ c.if3.false
+ink : (c : tie.Else-no_cut) → let a = c.args in (not (is_ink a.j a.lut.input_inks) || eqb a.lut.input_inks 1) ≡ false
+ink c = sym c.no_cut.ensures ∙ c.if-no_cut.false
 
-counts : (c : tie.Else3) → let a = c.before.before.before.before.before.before.args in (1 ≤ a.j) × (a.j ≤ a.lut.input_inks) × (2 ≤ a.lut.input_inks)
+counts : (c : tie.Else-no_cut) → let a = c.args in (1 ≤ a.j) × (a.j ≤ a.lut.input_inks) × (2 ≤ a.lut.input_inks)
 counts c = may-cut _ _ (ink c)
 
 -- ink j's size is among the sixteen, and above 0
-placed : (c : tie.Else3) → c.before.before.before.before.before.before.args.j ≤ 15
+placed : (c : tie.Else-no_cut) → c.args.j ≤ 15
 placed c = omega (arith, (counts c).1, inks-to _ (is-layout c.before.before.before.before))
 
-size-some : (c : tie.Else3) → let a = c.before.before.before.before.before.before.args in 0 < size_of a.lut a.j
+size-some : (c : tie.Else-no_cut) → let a = c.args in 0 < size_of a.lut a.j
 size-some c =
-    let a = c.before.before.before.before.before.before.args in
+    let a = c.args in
     size-from a.lut (is-layout c.before.before.before.before) (a.j - 1) (omega (arith, (counts c).0, (counts c).1))
 
 -- the slab's total
-share-is : (c : tie.Else4) →
-    let a = c.before.before.before.before.before.before.before.before.args in
-    c.before.before.before.before.before.entry-count.result / size_of a.lut a.j ≡ entries (fewer a.lut a.j)
+share-is : (c : tie.Else-lines-k) →
+    let a = c.args in
+    c.entry_count-total.result / size_of a.lut a.j ≡ entries (fewer a.lut a.j)
 share-is c =
-    let a = c.before.before.before.before.before.before.before.before.args in
+    let a = c.args in
     let is = is-layout c.before.before.before.before.before.before in
     let may = counts c.before.before in
     ap (λ (t : ℕ). t / size_of a.lut a.j) (total-is c.before.before.before.before.before ∙ fewer-entries a.lut is may.2 a.j may.0 may.1)
     ∙ mul-div_cancel_left (entries (fewer a.lut a.j)) (size-some c.before.before)
 
 -- what the tests up to the last say
-tested : (c : tie.Else4) (r : ℕ) →
-    let a = c.before.before.before.before.before.before.before.before.args in
+tested : (c : tie.Else-lines-k) (r : ℕ) →
+    let a = c.args in
     cond (ltb a.room (entries (fewer a.lut a.j))) 8 0 ≡ r → Checked a.lut a.table a.j a.k a.room r
 unfolding refusal
 tested c r last =
-    let else1 = c.before.before.before.before.before.before in
-    number else1.before r (sym (simp (else1.if1.false, enough c.before.before.before.before, ink c.before.before, lt-ltb _ _ c.if4.false) last))
+    let else1 = c in
+    number c.before.before.before.before.before.before.before r (sym (simp (else1.if-not-is_layout.false, enough c.before.before.before.before, ink c.before.before, lt-ltb _ _ c.if-lines-k.false) last))
 
-by-room : (c : tie.Else4) →
-    let a = c.before.before.before.before.before.before.before.before.args in
-    ltb a.room (entries (fewer a.lut a.j)) ≡ ltb a.room (c.before.before.before.before.before.entry-count.result / size_of a.lut a.j)
-by-room c = ap (ltb c.before.before.before.before.before.before.before.before.args.room) (sym (share-is c))
+by-room : (c : tie.Else-lines-k) →
+    let a = c.args in
+    ltb a.room (entries (fewer a.lut a.j)) ≡ ltb a.room (c.entry_count-total.result / size_of a.lut a.j)
+by-room c = ap (ltb c.args.room) (sym (share-is c))
 
-pub refused-spec : {M : Type 1} → statement M
+pub refused_spec : {M : Type 1} → statement M
 unfolding refusal
-refused-spec =
+refused_spec =
     tie.close
     (tie.spec
     (λ c κs. search rules)
-    (λ c. number c.before 9 (sym (simp c.if1.true)))
+    (λ c. number c.before 9 (sym (simp c.if-not-is_layout.true)))
     (λ c κs. search rules)
-    (λ c. number c.before.before.before 6 (sym (simp (c.before.before.if1.false, ap (ltb c.before.before.before.before.args.table) (sym (total-is c.before)) ∙ lt-ltb _ _ c.if2.true))))
+    (λ c. number c.before.before.before 6 (sym (simp (c.if-not-is_layout.false, ap (ltb c.args.table) (sym (total-is c.before)) ∙ lt-ltb _ _ c.if-table-total.true))))
     (λ c κs. search rules)
-    (λ c. number c.before.before.before.before.before 11 (sym (simp (c.before.before.before.before.if1.false, enough c.before.before, sym c.before.no_cut.ensures, c.if3.true))))
+    (λ c. number c.before.before.before.before.before 11 (sym (simp (c.if-not-is_layout.false, enough c.before.before, sym c.no_cut.ensures, c.if-no_cut.true))))
     (λ c. omega (arith, (counts c.before).0))
     (λ c. omega (arith, placed c.before, (counts c.before).0))
     (λ c. search rules)
-    (λ c. let else1 = c.before.before.before.before.before.before in
-    number else1.before 12 (sym (simp (else1.if1.false, enough c.before.before.before.before, ink c.before.before, le-ltb _ _ c.if4.true))))
+    (λ c. let else1 = c in
+    number c.before.before.before.before.before.before.before 12 (sym (simp (else1.if-not-is_layout.false, enough c.before.before.before.before, ink c.before.before, le-ltb _ _ c.if-lines-k.true))))
     (λ c. search rules)
     (λ c. size-some c.before.before)
-    (λ c. tested c.before 8 (ap (λ (b : Bool). cond b 8 0) (by-room c.before ∙ lt-ltb _ _ c.if5.true)))
-    (λ c. tested c.before 0 (ap (λ (b : Bool). cond b 8 0) (by-room c.before ∙ le-ltb _ _ c.if5.false))))
+    (λ c. tested c.before 8 (ap (λ (b : Bool). cond b 8 0) (by-room c.before ∙ lt-ltb _ _ c.if-room-total.true)))
+    (λ c. tested c.before 0 (ap (λ (b : Bool). cond b 8 0) (by-room c.before ∙ le-ltb _ _ c.if-room-total.false))))

@@ -8,21 +8,21 @@ use Rattle.probing.proofs.Digits.{length-spaced, length-head}
 use Rattle.probing.proofs.text.accepted.Statement.{statement}
 use Rattle.probing.proofs.text.accepted.Tie as tie
 
-pub accepted-spec : {M : Type 1} → statement M
+pub accepted_spec : {M : Type 1} → statement M
 unfolding report
-accepted-spec =
+accepted_spec =
     tie.close
     (tie.spec
     (λ c. search rules)
     (λ c. search rules)
     (λ c κs. search rules)
-    (λ c κs. let head = c.before.before.before.head.ensures in
-    let start = c.before.before.before.before.before.before.before.before in
+    (λ c κs. let head = c.head-at.ensures in
+    let start = c in
     (start.requires.0.0, omega (arith, start.requires, head.next, put-length head, length-head ok (length start.args.answers.now))))
-    (λ c κs. let line = c.before.before.before.line.ensures in
-    let head = c.before.before.before.before.before.before.before.head.ensures in
-    let start = c.before.before.before.before.before.before.before.before.before.before.before.before in
+    (λ c κs. let line = c.line-at.ensures in
+    let head = c.head-at.ensures in
+    let start = c in
     let answers = start.args.answers.now in
     omega (arith, start.requires, head.next, put-length head, line.next, put-length line, length-head ok (length answers), length-spaced answers start.requires.0.0))
     (λ c. search rules)
-    (λ c. put_then c.before.before.before.before.before.before.before.before.before.before.head.ensures (put_then c.before.before.before.before.before.before.line.ensures c.before.before.put_byte.ensures)))
+    (λ c. put_then c.head-at.ensures (put_then c.line-at.ensures c.put_byte.ensures)))

@@ -4,11 +4,11 @@ use Rattle.probing.proofs.Stores.{put_then}
 use Rattle.probing.proofs.text.blank_hex.Statement.{statement}
 use Rattle.probing.proofs.text.blank_hex.Tie as tie
 
-pub blank-hex-spec : {M : Type 1} → statement M
-blank-hex-spec =
+pub blank_hex_spec : {M : Type 1} → statement M
+blank_hex_spec =
     tie.close
     (tie.spec
     (λ c κs. search rules)
     (λ c κs. search rules)
     (λ c. search rules)
-    (λ c. put_then c.before.before.before.before.before.before.put_byte.ensures c.before.before.hex.ensures))
+    (λ c. put_then c.put_byte-at.ensures c.hex.ensures))

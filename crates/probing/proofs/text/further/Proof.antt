@@ -15,16 +15,16 @@ use Rattle.probing.proofs.Digits.{length-bits, blanks-next}
 use Rattle.probing.proofs.text.further.Statement.{statement}
 use Rattle.probing.proofs.text.further.Tie as tie
 
-abbrev invariant-loop : tie.invariant-loop
+abbrev invariant-loop : tie.invariant-loop-o
 invariant-loop answers out₀ at next₀ o₀ out next o =
     (o ≤ length answers) × (length out ≡ length out₀) × (next ≡ at + 9 * o) × Put out₀ at (after_blanks (map bits_of (take o answers))) next out
 
-abbrev decreases-loop : tie.decreases-loop
+abbrev decreases-loop : tie.decreases-loop-o
 decreases-loop answers out₀ at next₀ o₀ out next o = length answers - o
 
-pub further-spec : {M : Type 1} → statement M
+pub further_spec : {M : Type 1} → statement M
 unfolding after_blanks
-further-spec =
+further_spec =
     tie.close
     (tie.spec
     invariant-loop
@@ -32,16 +32,16 @@ further-spec =
     (λ c. (omega arith, refl, omega arith, record { next = omega arith; bytes = refl }))
     (λ c. search rules)
     (λ c. search rules)
-    (λ c κs. omega (arith, c.before.before.before.before.before.before.requires))
+    (λ c κs. omega (arith, c.requires))
     (λ c. search rules)
     (λ c. omega arith)
-    (λ c. let answers = c.before.before.before.before.before.before.before.before.before.args.answers.now in
-    let l = c.before.before.before.before.before.before.loop in
-    let one = c.before.before.blank-hex.ensures in (
+    (λ c. let answers = c.args.answers.now in
+    let l = c.loop-o in
+    let one = c.blank_hex-next.ensures in (
       omega arith,
       put-length one ∙ l.invariant.1,
       omega (arith, one.next, length-bits (get_or answers l.o nan), l.invariant.2),
       rw (add-one, blanks-next bits_of answers l.o (omega arith)) (put_then l.invariant.3 one),
     ))
-    (λ c. c.before.loop.invariant.1)
-    (λ c. let l = c.before.loop in rw (take_all l.o c.before.before.before.before.args.answers.now c.loop-test.false) at l.invariant.3))
+    (λ c. c.loop-o.invariant.1)
+    (λ c. let l = c.loop-o in rw (take_all l.o c.args.answers.now c.loop-o-test.false) at l.invariant.3))

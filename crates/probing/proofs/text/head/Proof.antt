@@ -13,10 +13,10 @@ head_spec =
     tie.close
     (tie.spec
     (λ c κs. search rules)
-    (λ c κs. let word = c.before.before.before.put.ensures in
+    (λ c κs. let word = c.put-at.ensures in
     omega (arith, word.next, put-length word))
-    (λ c κs. let word = c.before.before.before.before.before.before.before.put.ensures in
-    let number = c.before.before.before.decimal.ensures in
-    omega (arith, word.next, put-length word, number.next, put-length number, length-decimal c.before.before.before.before.before.before.before.before.before.before.before.args.number))
+    (λ c κs. let word = c.put-at.ensures in
+    let number = c.decimal-at.ensures in
+    omega (arith, word.next, put-length word, number.next, put-length number, length-decimal c.args.number))
     (λ c. search rules)
-    (λ c. put_then c.before.before.before.before.before.before.before.before.before.before.put.ensures (put_then c.before.before.before.before.before.before.decimal.ensures c.before.before.put_byte.ensures)))
+    (λ c. put_then c.put-at.ensures (put_then c.decimal-at.ensures c.put_byte.ensures)))

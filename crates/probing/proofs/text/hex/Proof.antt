@@ -4,9 +4,9 @@ use Rattle.probing.specs.Text.{bits_of}
 use Rattle.probing.proofs.text.hex.Statement.{statement}
 use Rattle.probing.proofs.text.hex.Tie as tie
 
-pub hex-spec : {M : Type 1} → statement M
+pub hex_spec : {M : Type 1} → statement M
 unfolding bits_of
-hex-spec =
+hex_spec =
     tie.close
     (tie.spec
     (λ c κs. search rules)
@@ -14,4 +14,4 @@ hex-spec =
     (λ c. search rules)
     (λ c κs. search rules)
     (λ c. search rules)
-    (λ c. rw (c.before.before.before.before.before.hex.ensures, c.before.before.before.before.before.before.bits.ensures) at c.before.before.put.ensures))
+    (λ c. rw (c.hex-digits.ensures, c.bits.ensures) at c.put.ensures))

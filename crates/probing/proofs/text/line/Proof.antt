@@ -17,18 +17,18 @@ first-others : (xs : List Float) → 0 < length xs → bits_of (get_or xs 0 nan)
 first-others [] h = absurd (not-suc-le-zero h)
 first-others (x ∷ xs) h = ap (λ (l : List Float). bits_of x ++ after_blanks (map bits_of l)) (rest-drop 1 (x ∷ xs))
 
-pub line-spec : {M : Type 1} → statement M
-line-spec =
+pub line_spec : {M : Type 1} → statement M
+line_spec =
     tie.close
     (tie.spec
     (λ c. search rules)
-    (λ c κs. omega (arith, c.before.before.before.before.requires))
+    (λ c κs. omega (arith, c.requires))
     (λ c. search rules)
     (λ c. search rules)
     (λ c. search rules)
-    (λ c κs. let first = c.before.before.before.before.hex.ensures in
-    let answers = c.before.before.before.before.before.before.before.before.before.args.answers.now in
-    omega (arith, c.before.before.before.before.before.before.before.before.before.requires, first.next, put-length first, length-bits (get_or answers 0 nan), ap length (rest-drop 1 answers) ∙ length-drop 1 answers))
+    (λ c κs. let first = c.hex-at.ensures in
+    let answers = c.args.answers.now in
+    omega (arith, c.requires, first.next, put-length first, length-bits (get_or answers 0 nan), ap length (rest-drop 1 answers) ∙ length-drop 1 answers))
     (λ c. search rules)
-    (λ c. let start = c.before.before.before.before.before.before.before.before.before.before.before.before in
-    rw (first-others start.args.answers.now start.requires.0) at (put_then c.before.before.before.before.before.before.before.hex.ensures c.before.before.further.ensures)))
+    (λ c. let start = c in
+    rw (first-others start.args.answers.now start.requires.0) at (put_then c.hex-at.ensures c.further.ensures)))

@@ -11,50 +11,50 @@ use Rattle.probing.proofs.Stores.{put_then}
 use Rattle.probing.proofs.text.put.Statement.{statement}
 use Rattle.probing.proofs.text.put.Tie as tie
 
-abbrev invariant-loop : tie.invariant-loop
+abbrev invariant-loop : tie.invariant-loop-i
 invariant-loop out₀ at text i₀ out i = (i ≤ length text) × (length out ≡ length out₀) × Put out₀ at (take i text) (at + i) out
 
-abbrev decreases-loop : tie.decreases-loop
+abbrev decreases-loop : tie.decreases-loop-i
 decreases-loop out₀ at text i₀ out i = length text - i
 
-loop-holds : tie.Need-loop-init invariant-loop decreases-loop
+loop-holds : tie.Need-loop-i-init invariant-loop decreases-loop
 loop-holds c = (search rules, refl, record { next = refl; bytes = refl })
 
-shared-slice-read-out : tie.Need-shared-slice-read-out invariant-loop decreases-loop
+shared-slice-read-out : tie.Need-bounds-text-i invariant-loop decreases-loop
 shared-slice-read-out c = search rules
 
-add-out : tie.Need-overflow-add-out invariant-loop decreases-loop
+add-out : tie.Need-overflow_add-out invariant-loop decreases-loop
 add-out c = search rules
 
-slice-write-out : tie.Need-slice-write-out invariant-loop decreases-loop
+slice-write-out : tie.Need-bounds-out-at invariant-loop decreases-loop
 slice-write-out c = search rules
 
-add-i : tie.Need-overflow-add-i invariant-loop decreases-loop
+add-i : tie.Need-overflow_add-i invariant-loop decreases-loop
 add-i c = search rules
 
-loop-less : tie.Need-loop-smaller invariant-loop decreases-loop
+loop-less : tie.Need-loop-i-smaller invariant-loop decreases-loop
 loop-less c = search rules
 
-loop-again : tie.Need-loop-preserved invariant-loop decreases-loop
+loop-again : tie.Need-loop-i-preserved invariant-loop decreases-loop
 loop-again c =
-    let text = c.before.before.before.args.text.now in
-    let l = c.before.before.loop in (
+    let text = c.args.text.now in
+    let l = c.loop-i in (
       omega arith,
       simp length-set l.invariant.1,
-      rw (add-one, take-suc text l.i 0 c.before.loop-test.true) (put_then l.invariant.2 (record { next = omega arith; bytes = refl })),
+      rw (add-one, take-suc text l.i 0 c.loop-i-test.true) (put_then l.invariant.2 (record { next = omega arith; bytes = refl })),
     )
 
-add-result : tie.Need-overflow-add-result invariant-loop decreases-loop
+add-result : tie.Need-overflow_add-result invariant-loop decreases-loop
 add-result c = search rules
 
-same_length : tie.Need-same-length invariant-loop decreases-loop
+same_length : tie.Need-shape_of-out invariant-loop decreases-loop
 same_length c = search rules
 
 returns : tie.Need-returns invariant-loop decreases-loop
 returns c =
-    let text = c.before.before.args.text.now in
-    let l = c.before.loop in
-    rw (take_all l.i text c.loop-test.false) at l.invariant.2
+    let text = c.args.text.now in
+    let l = c.loop-i in
+    rw (take_all l.i text c.loop-i-test.false) at l.invariant.2
 
 pub put_spec : {M : Type 1} → statement M
 put_spec =

@@ -13,11 +13,11 @@ unfolding report
 refusal-report zero h = absurd (omega (arith, h))
 refusal-report (suc n) h = refl
 
-pub refused-spec : {M : Type 1} → statement M
-refused-spec =
+pub refused_spec : {M : Type 1} → statement M
+refused_spec =
     tie.close
     (tie.spec
     (λ c. search rules)
     (λ c κs. search rules)
     (λ c. search rules)
-    (λ c. rw (refusal-report c.before.before.before.before.before.before.args.number (omega arith)) c.before.before.head.ensures))
+    (λ c. rw (refusal-report c.args.number (omega arith)) c.head.ensures))

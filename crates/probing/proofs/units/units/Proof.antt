@@ -20,10 +20,10 @@ map_next f [] i h = absurd (not-suc-le-zero h)
 map_next f (b ∷ bytes) zero h = refl
 map_next f (b ∷ bytes) (suc i) h = ap (λ (l : List Float). f b ∷ l) (map_next f bytes i (le_of_suc-le-suc h))
 
-abbrev invariant-loop : tie.invariant-loop
+abbrev invariant-loop : tie.invariant-loop-i
 invariant-loop bytes into₀ i₀ into i = (i ≤ length bytes) × (length into ≡ length into₀) × (take i into ≡ map code_of (take i bytes))
 
-abbrev decreases-loop : tie.decreases-loop
+abbrev decreases-loop : tie.decreases-loop-i
 decreases-loop bytes into₀ i₀ into i = length bytes - i
 
 step : (into : List Float) (bytes : List ℕ) (i : ℕ) (x : Float) → i < length into → i < length bytes → take i into ≡ map code_of (take i bytes)
@@ -37,25 +37,25 @@ all_done into bytes i le ge e =
     let last : length bytes ≡ i = omega arith in
     ap (λ (k : ℕ). take k into) last ∙ e ∙ ap (map code_of) (take_all i bytes ge)
 
-pub units-spec : {M : Type 1} → statement M
-units-spec =
+pub units_spec : {M : Type 1} → statement M
+units_spec =
     tie.close
     (tie.spec
     invariant-loop
     decreases-loop
     (λ c. (omega arith, refl, refl))
     (λ c. search rules)
-    (λ c. Fits-under w16 _ 256 (c.shared-slice-known2.given _).fits tt)
+    (λ c. Fits-under w16 _ 256 (c.shared_slice_known-in-loop-i-1.given _).fits tt)
     (λ c κs. search rules)
     (λ c. search rules)
     (λ c. search rules)
     (λ c. search rules)
     (λ c. omega arith)
-    (λ c. let bytes = c.before.before.before.before.before.before.args.bytes.now in
-    let l = c.before.before.before.loop in (
+    (λ c. let bytes = c.args.bytes.now in
+    let l = c.loop-i in (
       omega arith,
       simp length-set l.invariant.1,
       rw add-one (step l.into bytes l.i c.unit.result (omega arith) (omega arith) l.invariant.2 c.unit.ensures),
     ))
-    (λ c. c.before.loop.invariant.1)
-    (λ c. let l = c.before.loop in all_done l.into c.before.before.before.before.args.bytes.now l.i l.invariant.0 c.loop-test.false l.invariant.2))
+    (λ c. c.loop-i.invariant.1)
+    (λ c. let l = c.loop-i in all_done l.into c.args.bytes.now l.i l.invariant.0 c.loop-i-test.false l.invariant.2))

@@ -16,53 +16,53 @@ use Rattle.walk.proofs.Stepping.{Stepping, stepping-none, stepping-more, base-fi
 use Rattle.walk.proofs.cells.cells.Statement.{statement}
 use Rattle.walk.proofs.cells.cells.Tie as tie
 
-abbrev invariant-loop : tie.invariant-loop
+abbrev invariant-loop : tie.invariant-loop-i
 invariant-loop filling sizes inputs step₀ w₀ at₀ i₀ step w at i = Stepping filling sizes inputs step w at i
 
-abbrev decreases-loop : tie.decreases-loop
+abbrev decreases-loop : tie.decreases-loop-i
 decreases-loop filling sizes inputs step₀ w₀ at₀ i₀ step w at i = length inputs - i
 
 -- a NaN
-returns : tie.Need-returns invariant-loop decreases-loop
+returns : tie.Need-returns-in_default invariant-loop decreases-loop
 returns c =
-    let at = c.before.before in
-    let s = at.before.before.before.before in
-    let one = read-nan s.args.filling.now s.args.sizes.now s.args.inputs.now _ _ at.ink.ensures at.before.loop-test.true c.enum_told.given.1 in
-    (lowest-nan _ _ one, ((λ none. absurd (true≢false (sym one ∙ none))), (at.before.before.loop.invariant.steps, at.before.before.loop.invariant.weights)))
+    let at = c in
+    let s = c in
+    let one = read-nan s.args.filling.now s.args.sizes.now s.args.inputs.now _ _ at.ink-of.ensures at.loop-i-test.true c.in_default.is in
+    (lowest-nan _ _ one, ((λ none. absurd (true≢false (sym one ∙ none))), (at.loop-i.invariant.steps, at.loop-i.invariant.weights)))
 
 -- a turn with a cell
-module _ (c : tie.After-struct-known invariant-loop decreases-loop) where
-  abbrev at : tie.After-ink invariant-loop decreases-loop
-  at = c.before.before.before.before
+module _ (c : tie.After-struct_known-1 invariant-loop decreases-loop) where
+  abbrev at : tie.After-ink-of invariant-loop decreases-loop
+  at = c.before.before
 
   abbrev start : tie.Start invariant-loop decreases-loop
   start = at.before.before.before.before
 
   abbrev it : Cell
-  it = c.before.before.of.given.0.0
+  it = c.in-At.c
 
-  is : it ≡ placed_ink start.args.filling.now start.args.sizes.now start.args.inputs.now at.before.before.loop.i
-  is = placed_at start.args.filling.now start.args.sizes.now start.args.inputs.now _ _ at.ink.ensures it c.before.before.of.given.1
+  is : it ≡ placed_ink start.args.filling.now start.args.sizes.now start.args.inputs.now at.loop-i.i
+  is = placed_at start.args.filling.now start.args.sizes.now start.args.inputs.now _ _ at.ink-of.ensures it c.in-At.is
 
-  numbers : NoNans start.args.inputs.now (at.before.before.loop.i + 1)
-  numbers = numbers-to start.args.filling.now start.args.sizes.now start.args.inputs.now _ _ at.ink.ensures it c.before.before.of.given.1 at.before.before.loop.inv.numbers
+  numbers : NoNans start.args.inputs.now (at.loop-i.i + 1)
+  numbers = numbers-to start.args.filling.now start.args.sizes.now start.args.inputs.now _ _ at.ink-of.ensures it c.in-At.is at.loop-i.invariant.numbers
 
-  fits : at.before.before.loop.at + it.x < 18446744073709551616
+  fits : at.loop-i.at + it.x < 18446744073709551616
   fits =
-      let l = at.before.before.loop in
-      base-fits start.args.filling.now start.args.sizes.now start.args.inputs.now l.step l.w l.at l.i it at.before.loop-test.taken is l.inv start.pre.1.1.0
+      let l = at.loop-i in
+      base-fits start.args.filling.now start.args.sizes.now start.args.inputs.now l.step l.w l.at l.i it at.loop-i-test.true is l.invariant start.requires.1.1.0
 
   ordered : it.x ≤ it.x_n
-  ordered = subst (λ (q : Cell). q.x ≤ q.x_n) (sym is) (ordered-ink start.args.filling.now start.args.sizes.now start.args.inputs.now _ (start.pre.1.0 _ at.before.loop-test.taken).1)
+  ordered = subst (λ (q : Cell). q.x ≤ q.x_n) (sym is) (ordered-ink start.args.filling.now start.args.sizes.now start.args.inputs.now _ (start.requires.1.0 _ at.loop-i-test.true).1)
 
-pub cells-spec : {M : Type 1} → statement M
-cells-spec =
+pub cells_spec : {M : Type 1} → statement M
+cells_spec =
     tie.close
     (tie.spec
     invariant-loop
     decreases-loop
-    (λ c. let s = c.before in stepping-none s.args.filling.now s.args.sizes.now s.args.inputs.now s.args.step.now s.args.w.now s.requires.1.1.1.0 s.requires.1.1.1.1)
-    (λ c κs. let s = c.before.before.before in (omega (arith, c.loop-test.true, s.requires.0), c.loop-test.true))
+    (λ c. let s = c in stepping-none s.args.filling.now s.args.sizes.now s.args.inputs.now s.args.step.now s.args.w.now s.requires.1.1.1.0 s.requires.1.1.1.1)
+    (λ c κs. let s = c in (omega (arith, c.loop-i-test.true, s.requires.0), c.loop-i-test.true))
     (λ c. search rules)
     (λ c. search rules)
     returns
@@ -74,12 +74,12 @@ cells-spec =
     (λ c. omega arith)
     (λ c. omega arith)
     (λ c. omega arith)
-    (λ c. let s = start c.before in
-    let l = (at c.before).before.before.loop in
-    stepping-more s.args.filling.now s.args.sizes.now s.args.inputs.now l.step l.w l.at l.i (it c.before) (at c.before).before.loop-test.true s.pre.0 (is c.before) (numbers c.before) l.inv)
-    (λ c. let s = c.before.before.before in
-    let l = c.before.loop in
-    let all : l.i ≡ length s.args.inputs.now = omega (arith, l.invariant.most, c.loop-test.false) in
+    (λ c. let s = start c.before.before in
+    let l = (at c.before.before).loop-i in
+    stepping-more s.args.filling.now s.args.sizes.now s.args.inputs.now l.step l.w l.at l.i (it c.before.before) (at c.before.before).loop-i-test.true s.requires.0 (is c.before.before) (numbers c.before.before) l.invariant)
+    (λ c. let s = c in
+    let l = c.loop-i in
+    let all : l.i ≡ length s.args.inputs.now = omega (arith, l.invariant.most, c.loop-i-test.false) in
     let none = some-none is_nan nan s.args.inputs.now (subst (NoNans s.args.inputs.now) all l.invariant.numbers) in (
       lowest-at s.args.inputs.now _ none _ (l.invariant.base ∙ ap (λ (n : ℕ). lows (first_inks s.args.filling.now s.args.sizes.now s.args.inputs.now n)) all),
       (

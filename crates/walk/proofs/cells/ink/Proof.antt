@@ -3,8 +3,8 @@ use native.Mathlib.Omega.{arith}
 use Rattle.walk.proofs.cells.ink.Statement.{statement}
 use Rattle.walk.proofs.cells.ink.Tie as tie
 
-pub ink-spec : {M : Type 1} → statement M
-ink-spec =
+pub ink_spec : {M : Type 1} → statement M
+ink_spec =
     tie.close
     (tie.spec
     (λ c. omega arith)

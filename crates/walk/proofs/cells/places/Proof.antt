@@ -8,25 +8,25 @@ use Rattle.walk.specs.Kept.{skip_of}
 use Rattle.walk.proofs.cells.places.Statement.{statement}
 use Rattle.walk.proofs.cells.places.Tie as tie
 
-off : tie.Need-returns
+off : tie.Need-returns-then-not-skipping
 off c =
-    let is : c.before.args.skipping ≡ false = not-true _ c.if1.true in
-    sym (ap (λ (b : Bool). cond (skip_of b c.before.args.w) 0 1) is)
+    let is : c.args.skipping ≡ false = c.if-not-skipping.true in
+    sym (ap (λ (b : Bool). cond (skip_of b c.args.w) 0 1) is)
 
 -- with skipping
-module _ (c : tie.Else1) where
-  on : skip_of c.before.args.skipping c.before.args.w ≡ idle c.before.args.w
+module _ (c : tie.Else-not-skipping) where
+  on : skip_of c.args.skipping c.args.w ≡ idle c.args.w
   on =
-      let is : c.before.args.skipping ≡ true = not-false _ c.if1.false in
-      ap (λ (b : Bool). skip_of b c.before.args.w) is
+      let is : c.args.skipping ≡ true = c.if-not-skipping.false in
+      ap (λ (b : Bool). skip_of b c.args.w) is
 
-taken : tie.Need-returns-2
+taken : tie.Need-returns-then-w
 unfolding of_bits
-taken c = sym (ap (λ (b : Bool). cond b 0 1) (on c.before ∙ c.if2.true))
+taken c = sym (ap (λ (b : Bool). cond b 0 1) (on c.before ∙ c.if-w.true))
 
-left : tie.Need-returns-3
+left : tie.Need-returns-else-w
 unfolding of_bits
-left c = sym (ap (λ (b : Bool). cond b 0 1) (on c.before ∙ c.if2.false))
+left c = sym (ap (λ (b : Bool). cond b 0 1) (on c.before ∙ c.if-w.false))
 
-pub places-spec : {M : Type 1} → statement M
-places-spec = tie.close (tie.spec off taken left)
+pub places_spec : {M : Type 1} → statement M
+places_spec = tie.close (tie.spec off taken left)

@@ -18,12 +18,12 @@ use Rattle.walk.proofs.few.four.Statement.{statement}
 use Rattle.walk.proofs.few.four.Tie as tie
 
 -- where one block holds all
-module _ (c : tie.Else1) where
+module _ (c : tie.Else-not-one_block) where
   abbrev start : tie.Start
   start = c.before.before.before.before.before
 
   block : (start.args.m ≤ 4) × (start.args.p.far + start.args.h + 4 ≤ length start.args.t.now)
-  block = let held = c.before.one_block.ensures (not-false _ c.if1.false) in (held.0, omega (arith, held.1, start.pre.0.1))
+  block = let held = c.one_block.ensures c.if-not-one_block.false in (held.0, omega (arith, held.1, start.requires.0.1))
 
 -- the answers, with ink 4 skipped or not
 abbrev answers : tie.Start → Bool → ℕ → Float
@@ -32,42 +32,42 @@ answers s b o = fourth b (tetra_of s.args.p o s.args.t.now) (tetra_of s.args.p o
 given : (s : tie.Start) (b : Bool) → s.args.alone ≡ b → (now : List Float) → Gives (answers s b) s.args.m s.args.out.now now → Gives (answers s s.args.alone) s.args.m s.args.out.now now
 given s b is now = subst (λ (a : Bool). Gives (answers s a) s.args.m s.args.out.now now) (sym is)
 
-pub four-spec : {M : Type 1} → statement M
-four-spec =
+pub four_spec : {M : Type 1} → statement M
+four_spec =
     tie.close
     (tie.spec
     (λ c. omega arith)
     (λ c. omega arith)
     (λ c κs. tt)
-    (λ c κs. (c.before.before.before.before.before.before.requires.0, c.before.before.before.before.before.before.requires.1))
-    (λ c. same-room _ _ _ _ c.before.before.four-each.ensures)
-    (λ c. let s = c.before.before.before.before.before.before.before.before.before in written-gives _ s.args.m s.args.out.now _ s.requires.1 c.before.before.four-each.ensures)
+    (λ c κs. (c.requires.0, c.requires.1))
+    (λ c. same-room _ _ _ _ c.four_each.ensures)
+    (λ c. let s = c in written-gives _ s.args.m s.args.out.now _ s.requires.1 c.four_each.ensures)
     (λ c κs. ((start c).requires.0.0, omega (arith, (block c).1)))
-    (λ c κs. (omega arith, (start c.before.before.before).pre.1))
-    (λ c. c.before.before.give.ensures.room)
-    (λ c. let below = c.before.before.before.before.before in
-    let k = below.before in
-    let s = start k in
-    given s true c.before.before.before.before.if2.true _
-    (block-gives (answers s true) s.args.m s.args.out.now _ below.tetra4.result (block k).0 c.before.before.give.ensures
-    (lane-is _ (λ o. tetra_of s.args.p o s.args.t.now) below.tetra4.ensures)))
+    (λ c κs. (omega arith, (start c.before.before.before).requires.1))
+    (λ c. c.give.ensures.room)
+    (λ c. let below = c in
+    let k = c in
+    let s = start c.before.before.before.before.before.before in
+    given s true c.if-alone.true _
+    (block-gives (answers s true) s.args.m s.args.out.now _ below.tetra4-below.result (block c.before.before.before.before.before.before).0 c.give.ensures
+    (lane-is _ (λ o. tetra_of s.args.p o s.args.t.now) below.tetra4-below.ensures)))
     (λ c. omega arith)
     (λ c. omega arith)
     (λ c. omega arith)
     (λ c. omega arith)
-    (λ c κs. let k = c.before.before.before in ((start k).requires.0.0, rw from-length (omega (arith, (block k).1))))
+    (λ c κs. let k = c in ((start c.before.before.before).requires.0.0, rw from-length (omega (arith, (block c.before.before.before).1))))
     (λ c κs. tt)
-    (λ c κs. (omega arith, (start c.before.before.before.before.before.before).pre.1))
-    (λ c. c.before.before.give2.ensures.room)
-    (λ c. let blended = c.before.before.before.before in
-    let above = blended.before in
-    let apart = above.before.before in
-    let below = apart.before in
-    let k = below.before in
-    let s = start k in
-    given s false apart.if2.false _
-    (block-gives (answers s false) s.args.m s.args.out.now _ blended.lerp4.result (block k).0 c.before.before.give2.ensures
-    (λ j h. lane-is _ (λ o. lerp (lane below.tetra4.result o) (lane above.tetra42.result o) s.args.w) blended.lerp4.ensures j h
+    (λ c κs. (omega arith, (start c.before.before.before.before.before.before).requires.1))
+    (λ c. c.give-2.ensures.room)
+    (λ c. let blended = c in
+    let above = c in
+    let apart = c in
+    let below = c in
+    let k = c in
+    let s = start c.before.before.before.before.before.before.before.before.before in
+    given s false apart.if-alone.false _
+    (block-gives (answers s false) s.args.m s.args.out.now _ blended.lerp4.result (block c.before.before.before.before.before.before.before.before.before).0 c.give-2.ensures
+    (λ j h. lane-is _ (λ o. lerp (lane below.tetra4-below.result o) (lane above.tetra4-above.result o) s.args.w) blended.lerp4.ensures j h
     ∙ ap₂ (λ (x y : Float). lerp x y s.args.w)
-    (lane-is _ (λ o. tetra_of s.args.p o s.args.t.now) below.tetra4.ensures j h)
-    (lane-is _ (λ o. tetra_of s.args.p o (take (length s.args.t.now - s.args.h) (drop s.args.h s.args.t.now))) above.tetra42.ensures j h ∙ ap (tetra_of s.args.p j) (from-drop s.args.t.now s.args.h))))))
+    (lane-is _ (λ o. tetra_of s.args.p o s.args.t.now) below.tetra4-below.ensures j h)
+    (lane-is _ (λ o. tetra_of s.args.p o (take (length s.args.t.now - s.args.h) (drop s.args.h s.args.t.now))) above.tetra4-above.ensures j h ∙ ap (tetra_of s.args.p j) (from-drop s.args.t.now s.args.h))))))

@@ -18,12 +18,12 @@ use Rattle.walk.proofs.few.one.Statement.{statement}
 use Rattle.walk.proofs.few.one.Tie as tie
 
 -- where one block holds all
-module _ (c : tie.Else1) where
+module _ (c : tie.Else-not-one_block) where
   abbrev start : tie.Start
   start = c.before.before.before.before.before
 
   block : (start.args.m ≤ 4) × (start.args.c.x_n + 4 ≤ length start.args.part.now)
-  block = let held = c.before.one_block.ensures (not-false _ c.if1.false) in (held.0, omega (arith, held.1, start.pre.0.1))
+  block = let held = c.one_block.ensures c.if-not-one_block.false in (held.0, omega (arith, held.1, start.requires.0.1))
 
 pub one_spec : {M : Type 1} → statement M
 one_spec =
@@ -31,17 +31,17 @@ one_spec =
     (tie.spec
     (λ c. omega arith)
     (λ c κs. tt)
-    (λ c κs. let s = c.before.before.before.before.before.before in (omega (arith, s.requires.0.0, s.requires.0.1), s.requires.1))
-    (λ c. same-room _ _ _ _ c.before.before.one_each.ensures)
-    (λ c. let s = c.before.before.before.before.before.before.before.before.before in written-gives _ s.args.m s.args.out.now _ s.requires.1 c.before.before.one_each.ensures)
+    (λ c κs. let s = c in (omega (arith, s.requires.0.0, s.requires.0.1), s.requires.1))
+    (λ c. same-room _ _ _ _ c.one_each.ensures)
+    (λ c. let s = c in written-gives _ s.args.m s.args.out.now _ s.requires.1 c.one_each.ensures)
     (λ c κs. omega (arith, (block c).1, (start c).requires.0.0))
     (λ c κs. (block c.before).1)
     (λ c κs. tt)
-    (λ c κs. (omega arith, (start c.before.before.before.before).pre.1))
-    (λ c. c.before.before.give.ensures.room)
-    (λ c. let k = c.before.before.before.before.before.before.before in
-    let s = start k in
-    block-gives (answer s.args.part.now (s.args.c ∷ [])) s.args.m s.args.out.now _ c.before.before.before.before.along4.result (block k).0 c.before.before.give.ensures
-    (λ j h. lane-is _ (λ i. along (lane c.before.before.before.before.before.before.load.result i) (lane c.before.before.before.before.before.load2.result i) s.args.c.w) c.before.before.before.before.along4.ensures j h
-    ∙ ap₂ (λ (x y : Float). along x y s.args.c.w) (lane-is _ (λ i. at s.args.part.now (s.args.c.x + i)) c.before.before.before.before.before.before.load.ensures j h) (lane-is _ (λ i. at s.args.part.now (s.args.c.x_n + i)) c.before.before.before.before.before.load2.ensures j h)
+    (λ c κs. (omega arith, (start c.before.before.before.before).requires.1))
+    (λ c. c.give.ensures.room)
+    (λ c. let k = c in
+    let s = start c.before.before.before.before.before.before.before in
+    block-gives (answer s.args.part.now (s.args.c ∷ [])) s.args.m s.args.out.now _ c.along4-f.result (block c.before.before.before.before.before.before.before).0 c.give.ensures
+    (λ j h. lane-is _ (λ i. along (lane c.load.result i) (lane c.load-2.result i) s.args.c.w) c.along4-f.ensures j h
+    ∙ ap₂ (λ (x y : Float). along x y s.args.c.w) (lane-is _ (λ i. at s.args.part.now (s.args.c.x + i)) c.load.ensures j h) (lane-is _ (λ i. at s.args.part.now (s.args.c.x_n + i)) c.load-2.ensures j h)
     ∙ one-ink s.args.part.now j s.args.c)))

@@ -26,69 +26,69 @@ use Rattle.walk.proofs.few.three_or_four.Statement.{statement}
 use Rattle.walk.proofs.few.three_or_four.Tie as tie
 
 -- where the first input is a number
-module _ (k : tie.After-known-told) where
+module _ (k : tie.In-At) where
   abbrev start : tie.Start
-  start = k.before.before.before.before.before.before.before
+  start = k.before.before.before.before.before
 
   abbrev first : Cell
-  first = k.before.first.given.0.0
+  first = k.in-At.c
 
   one-read : Read start.args.filling.now start.args.sizes.now start.args.inputs.now 1 (first ∷ [])
-  one-read = read_more start.args.filling.now start.args.sizes.now start.args.inputs.now 0 _ k.before.before.before.ink.ensures [] (read_none _ _ _) first k.before.first.given.1
+  one-read = read_more start.args.filling.now start.args.sizes.now start.args.inputs.now 0 _ k.ink-first.ensures [] (read_none _ _ _) first k.in-At.is
 
 -- the second
-module _ (k : tie.After-known-told2) where
-  abbrev told : tie.After-known-told
+module _ (k : tie.In-At-second) where
+  abbrev told : tie.In-At
   told = k.before.before.before.before
 
   abbrev second : Cell
-  second = k.before.second.given.0.0
+  second = k.in-At-second.d
 
   two-read : Read (start told).args.filling.now (start told).args.sizes.now (start told).args.inputs.now 2 (second ∷ first told ∷ [])
-  two-read = read_more (start told).args.filling.now (start told).args.sizes.now (start told).args.inputs.now 1 _ k.before.before.before.ink2.ensures (first told ∷ []) (one-read told) second k.before.second.given.1
+  two-read = read_more (start told).args.filling.now (start told).args.sizes.now (start told).args.inputs.now 1 _ k.ink-second.ensures (first told ∷ []) (one-read told) second k.in-At-second.is
 
 -- and the third
-module _ (k : tie.After-known-told3) where
-  abbrev told2 : tie.After-known-told2
+module _ (k : tie.In-At-third) where
+  abbrev told2 : tie.In-At-second
   told2 = k.before.before.before.before
 
   abbrev origin : tie.Start
   origin = start (told told2)
 
   abbrev third : Cell
-  third = k.before.third.given.0.0
+  third = k.in-At-third.e
 
   abbrev cube : List Cell
   cube = third ∷ second told2 ∷ first (told told2) ∷ []
 
   three-read : Read origin.args.filling.now origin.args.sizes.now origin.args.inputs.now 3 cube
-  three-read = read_more origin.args.filling.now origin.args.sizes.now origin.args.inputs.now 2 _ k.before.before.before.ink3.ensures (second told2 ∷ first (told told2) ∷ []) (two-read told2) third k.before.third.given.1
+  three-read = read_more origin.args.filling.now origin.args.sizes.now origin.args.inputs.now 2 _ k.ink-third.ensures (second told2 ∷ first (told told2) ∷ []) (two-read told2) third k.in-At-third.is
 
   proper : Proper cube
-  proper = cells-proper origin.args.filling.now origin.args.sizes.now origin.args.inputs.now origin.args.m origin.pre.0.0 origin.args.table.now origin.pre.1.0 3 cube three-read.are origin.pre.0.1
+  proper = cells-proper origin.args.filling.now origin.args.sizes.now origin.args.inputs.now origin.args.m origin.requires.0.0 origin.args.table.now origin.requires.1.0 3 cube three-read.are origin.requires.0.1
 
   reached : reach cube + origin.args.m ≤ length origin.args.table.now
-  reached = cells-reach origin.args.filling.now origin.args.sizes.now origin.args.inputs.now origin.args.m origin.pre.0.0 origin.args.table.now origin.pre.1.0 3 cube three-read.are origin.pre.0.1
+  reached = cells-reach origin.args.filling.now origin.args.sizes.now origin.args.inputs.now origin.args.m origin.requires.0.0 origin.args.table.now origin.requires.1.0 3 cube three-read.are origin.requires.0.1
 
   bytes : reach cube * 4 < 9_223_372_036_854_775_808
-  bytes = omega (arith, reached, origin.good.1.1.1.0.1)
+  bytes = omega (arith, reached, origin.well_formed.1.1.1.0.1)
 
 -- where the plan is made
-module _ (c : tie.After-plan-of) where
-  abbrev told3 : tie.After-known-told3
+module _ (c : tie.After-plan_of-p) where
+  abbrev told3 : tie.In-At-third
   told3 = c.before.before.before.before
 
   abbrev origin3 : tie.Start
   origin3 = origin told3
 
   abbrev plan : Plan
-  plan = c.plan-of.result
+  plan = c.plan_of-p.result
 
   abbrev skip3 : Float → Bool
   skip3 = skip_of origin3.args.skipping
 
   near : Near plan
-  near = cube-near origin3.args.filling.now origin3.args.sizes.now origin3.args.inputs.now origin3.args.m origin3.pre.0.0 origin3.args.table.now origin3.pre.1.0 (first (told (told2 told3))) (second (told2 told3)) (third told3) (three-read told3).are origin3.pre.0.1 plan c.plan-of.ensures
+  near = cube-near origin3.args.filling.now origin3.args.sizes.now origin3.args.inputs.now origin3.args.m origin3.requires.0.0 origin3.args.table.now origin3.requires.1.0 (first (told (told2 told3))) (second (told2 told3)) (third told3) (three-read told3).are origin3.requires.0.1 plan c.plan_of-p.ensures
 
   -- exactly three inks
   module _ (is : length origin3.args.inputs.now ≡ 3) where
@@ -102,24 +102,24 @@ module _ (c : tie.After-plan-of) where
     base = omega arith
 
     room : plan.far + origin3.args.m ≤ length part
-    room = omega (arith, cube-reach origin3.args.filling.now origin3.args.sizes.now origin3.args.inputs.now origin3.args.m origin3.pre.0.0 origin3.args.table.now origin3.pre.1.0 (first (told (told2 told3))) (second (told2 told3)) (third told3) (three-read told3).are origin3.pre.0.1 plan c.plan-of.ensures [] 3 is (three-read told3).are at base)
+    room = omega (arith, cube-reach origin3.args.filling.now origin3.args.sizes.now origin3.args.inputs.now origin3.args.m origin3.requires.0.0 origin3.args.table.now origin3.requires.1.0 (first (told (told2 told3))) (second (told2 told3)) (third told3) (three-read told3).are origin3.requires.0.1 plan c.plan_of-p.ensures [] 3 is (three-read told3).are at base)
 
     reads : 6 ≡ reads_in (skip3) (last_first (length origin3.args.inputs.now) origin3.args.sizes.now) origin3.args.inputs.now
-    reads = cube-reads origin3.args.filling.now origin3.args.sizes.now origin3.args.inputs.now origin3.args.m origin3.pre.0.0 origin3.args.table.now origin3.pre.1.0 (first (told (told2 told3))) (second (told2 told3)) (third told3) (three-read told3).are origin3.pre.0.1 plan c.plan-of.ensures [] 3 is (three-read told3).are at base skip3
+    reads = cube-reads origin3.args.filling.now origin3.args.sizes.now origin3.args.inputs.now origin3.args.m origin3.requires.0.0 origin3.args.table.now origin3.requires.1.0 (first (told (told2 told3))) (second (told2 told3)) (third told3) (three-read told3).are origin3.requires.0.1 plan c.plan_of-p.ensures [] 3 is (three-read told3).are at base skip3
 
     done : (given : List Float) → Gives (λ o. tetra_of plan o part) origin3.args.m (take origin3.args.m origin3.args.answer.now) given
         → Settled (answer_in skip3 (last_first (length origin3.args.inputs.now) origin3.args.sizes.now) origin3.args.m origin3.args.table.now origin3.args.inputs.now) origin3.args.m origin3.args.inputs.now origin3.args.answer.now 0 (given ++ drop origin3.args.m origin3.args.answer.now)
     done given gives =
-        cube-done origin3.args.filling.now origin3.args.sizes.now origin3.args.inputs.now origin3.args.m origin3.pre.0.0 origin3.args.table.now origin3.pre.1.0 (first (told (told2 told3))) (second (told2 told3)) (third told3) (three-read told3).are origin3.pre.0.1 plan c.plan-of.ensures [] 3 is (three-read told3).are at base skip3 (read-numbers _ _ _ 3 _ (three-read told3) is) origin3.args.answer.now _
-        (prefix-written (λ o. tetra_of plan o part) origin3.args.m origin3.args.answer.now given origin3.pre.1.1 gives)
+        cube-done origin3.args.filling.now origin3.args.sizes.now origin3.args.inputs.now origin3.args.m origin3.requires.0.0 origin3.args.table.now origin3.requires.1.0 (first (told (told2 told3))) (second (told2 told3)) (third told3) (three-read told3).are origin3.requires.0.1 plan c.plan_of-p.ensures [] 3 is (three-read told3).are at base skip3 (read-numbers _ _ _ 3 _ (three-read told3) is) origin3.args.answer.now _
+        (prefix-written (λ o. tetra_of plan o part) origin3.args.m origin3.args.answer.now given origin3.requires.1.1 gives)
 
 -- and where the fourth input is a number too
-module _ (k : tie.After-known-told4) where
-  abbrev planned : tie.After-plan-of
+module _ (k : tie.In-At-fourth) where
+  abbrev planned : tie.After-plan_of-p
   planned = k.before.before.before.before.before.before.before.before
 
   abbrev four : Cell
-  four = k.before.fourth.given.0.0
+  four = k.in-At-fourth.h
 
   abbrev origin4 : tie.Start
   origin4 = origin3 planned
@@ -128,13 +128,13 @@ module _ (k : tie.After-known-told4) where
   cells = four ∷ cube (told3 planned)
 
   four-read : Read origin4.args.filling.now origin4.args.sizes.now origin4.args.inputs.now 4 cells
-  four-read = read_more origin4.args.filling.now origin4.args.sizes.now origin4.args.inputs.now 3 _ k.before.before.before.ink4.ensures (cube (told3 planned)) (three-read (told3 planned)) four k.before.fourth.given.1
+  four-read = read_more origin4.args.filling.now origin4.args.sizes.now origin4.args.inputs.now 3 _ k.ink-fourth.ensures (cube (told3 planned)) (three-read (told3 planned)) four k.in-At-fourth.is
 
   all-four : length origin4.args.inputs.now ≡ 4
-  all-four = omega (arith, origin4.pre.0.1, origin4.pre.0.2, k.before.before.before.before.if1.left)
+  all-four = omega (arith, origin4.requires.0.1, origin4.requires.0.2, k.if-inputs-eq3.left)
 
   ordered : four.x ≤ four.x_n
-  ordered = (cells-proper origin4.args.filling.now origin4.args.sizes.now origin4.args.inputs.now origin4.args.m origin4.pre.0.0 origin4.args.table.now origin4.pre.1.0 4 cells four-read.are (omega (arith, all-four))).0.0
+  ordered = (cells-proper origin4.args.filling.now origin4.args.sizes.now origin4.args.inputs.now origin4.args.m origin4.requires.0.0 origin4.args.table.now origin4.requires.1.0 4 cells four-read.are (omega (arith, all-four))).0.0
 
   abbrev low : ℕ
   low = (first (told (told2 (told3 planned)))).x + (second (told2 (told3 planned))).x + (third (told3 planned)).x + four.x
@@ -146,13 +146,13 @@ module _ (k : tie.After-known-told4) where
   low-base = omega arith
 
   four-starts : low + origin4.args.m ≤ length origin4.args.table.now
-  four-starts = part-starts origin4.args.filling.now origin4.args.sizes.now origin4.args.inputs.now origin4.args.m origin4.pre.0.0 origin4.args.table.now origin4.pre.1.0 4 all-four cells four-read.are low low-base
+  four-starts = part-starts origin4.args.filling.now origin4.args.sizes.now origin4.args.inputs.now origin4.args.m origin4.requires.0.0 origin4.args.table.now origin4.requires.1.0 4 all-four cells four-read.are low low-base
 
   four_bytes : low * 4 < 9_223_372_036_854_775_808
-  four_bytes = omega (arith, four-starts, origin4.good.1.1.1.0.1)
+  four_bytes = omega (arith, four-starts, origin4.well_formed.1.1.1.0.1)
 
   four-room : (plan planned).far + (four.x_n - four.x) + origin4.args.m ≤ length upper-part
-  four-room = omega (arith, cube-reach origin4.args.filling.now origin4.args.sizes.now origin4.args.inputs.now origin4.args.m origin4.pre.0.0 origin4.args.table.now origin4.pre.1.0 (first (told (told2 (told3 planned)))) (second (told2 (told3 planned))) (third (told3 planned)) (three-read (told3 planned)).are origin4.pre.0.1 (plan planned) planned.plan-of.ensures (four ∷ []) 4 all-four four-read.are low low-base)
+  four-room = omega (arith, cube-reach origin4.args.filling.now origin4.args.sizes.now origin4.args.inputs.now origin4.args.m origin4.requires.0.0 origin4.args.table.now origin4.requires.1.0 (first (told (told2 (told3 planned)))) (second (told2 (told3 planned))) (third (told3 planned)) (three-read (told3 planned)).are origin4.requires.0.1 (plan planned) planned.plan_of-p.ensures (four ∷ []) 4 all-four four-read.are low low-base)
 
   abbrev skip4 : Float → Bool
   skip4 = skip_of origin4.args.skipping
@@ -171,20 +171,20 @@ module _ (k : tie.After-known-told4) where
     four-reads =
         let back : 3 + places - 3 ≡ places = omega arith in
         ap (λ (k : ℕ). 6 * 2 ^ k) (back ∙ taken)
-        ∙ cube-reads origin4.args.filling.now origin4.args.sizes.now origin4.args.inputs.now origin4.args.m origin4.pre.0.0 origin4.args.table.now origin4.pre.1.0 (first (told (told2 (told3 planned)))) (second (told2 (told3 planned))) (third (told3 planned)) (three-read (told3 planned)).are origin4.pre.0.1 (plan planned) planned.plan-of.ensures (four ∷ []) 4 all-four four-read.are low low-base skip4
+        ∙ cube-reads origin4.args.filling.now origin4.args.sizes.now origin4.args.inputs.now origin4.args.m origin4.requires.0.0 origin4.args.table.now origin4.requires.1.0 (first (told (told2 (told3 planned)))) (second (told2 (told3 planned))) (third (told3 planned)) (three-read (told3 planned)).are origin4.requires.0.1 (plan planned) planned.plan_of-p.ensures (four ∷ []) 4 all-four four-read.are low low-base skip4
 
     four-done : (given : List Float) → Gives answers origin4.args.m (take origin4.args.m origin4.args.answer.now) given
         → Settled (answer_in skip4 (last_first (length origin4.args.inputs.now) origin4.args.sizes.now) origin4.args.m origin4.args.table.now origin4.args.inputs.now) origin4.args.m origin4.args.inputs.now origin4.args.answer.now 0 (given ++ drop origin4.args.m origin4.args.answer.now)
     four-done given gives =
-        cube-done origin4.args.filling.now origin4.args.sizes.now origin4.args.inputs.now origin4.args.m origin4.pre.0.0 origin4.args.table.now origin4.pre.1.0 (first (told (told2 (told3 planned)))) (second (told2 (told3 planned))) (third (told3 planned)) (three-read (told3 planned)).are origin4.pre.0.1 (plan planned) planned.plan-of.ensures (four ∷ []) 4 all-four four-read.are low low-base skip4 (read-numbers _ _ _ 4 _ four-read all-four) origin4.args.answer.now _
-        (prefix-written answers origin4.args.m origin4.args.answer.now given origin4.pre.1.1 gives ∙ written_same _ _ origin4.args.m origin4.args.answer.now (λ o h. are o))
+        cube-done origin4.args.filling.now origin4.args.sizes.now origin4.args.inputs.now origin4.args.m origin4.requires.0.0 origin4.args.table.now origin4.requires.1.0 (first (told (told2 (told3 planned)))) (second (told2 (told3 planned))) (third (told3 planned)) (three-read (told3 planned)).are origin4.requires.0.1 (plan planned) planned.plan_of-p.ensures (four ∷ []) 4 all-four four-read.are low low-base skip4 (read-numbers _ _ _ 4 _ four-read all-four) origin4.args.answer.now _
+        (prefix-written answers origin4.args.m origin4.args.answer.now given origin4.requires.1.1 gives ∙ written_same _ _ origin4.args.m origin4.args.answer.now (λ o h. are o))
 
 few-places : (b : Bool) (places : ℕ) → places ≡ cond b 0 1 → places ≤ 1
 few-places true places is = omega arith
 few-places false places is = omega arith
 
-placed : (p : tie.After-places) → p.places.result ≤ 1
-placed p = few-places (skip4 p.before (four p.before).w) p.places.result p.places.ensures
+placed : (p : tie.After-places-places) → p.places-places.result ≤ 1
+placed p = few-places (skip4 p.before (four p.before).w) p.places-places.result p.places-places.ensures
 
 -- a NaN
 refused : (s : tie.Start) (r : Counted) → r.refusal ≡ 16 → Counts 0 r → some is_nan s.args.inputs.now ≡ true
@@ -192,88 +192,88 @@ refused : (s : tie.Start) (r : Counted) → r.refusal ≡ 16 → Counts 0 r → 
     × Counts (reads_in (skip_of s.args.skipping) (last_first (length s.args.inputs.now) s.args.sizes.now) s.args.inputs.now) r
 refused s r is none one = (settled-as _ _ _ _ 16 _ _ is (settled-nan s.args.inputs.now _ _ _ one), refused-counts _ r 16 is (λ z. omega arith) none)
 
-pub three-or-four-spec : {M : Type 1} → statement M
-three-or-four-spec =
+pub three_or_four_spec : {M : Type 1} → statement M
+three_or_four_spec =
     tie.close
     (tie.spec
-    (λ c κs. (omega arith, c.before.before.before.requires.0.0.inks-from))
+    (λ c κs. (omega arith, c.requires.0.0.inks-from))
     (λ c. search rules)
     (λ c. search rules)
     (λ c κs. tt)
-    (λ c. let call = c.before.before.before in
-    let s = call.before.before.before.before in
+    (λ c. let call = c in
+    let s = c in
     refused s c.tally.result c.tally.ensures.0 c.tally.ensures.1
-    (read-nan s.args.filling.now s.args.sizes.now s.args.inputs.now 0 _ call.ink.ensures s.requires.0.0.inks-from c.before.enum_told.given.1))
+    (read-nan s.args.filling.now s.args.sizes.now s.args.inputs.now 0 _ call.ink-first.ensures s.requires.0.0.inks-from c.in_default.is))
     (λ c κs. (omega arith, omega (arith, (start c).requires.0.1)))
     (λ c. search rules)
     (λ c. search rules)
     (λ c κs. tt)
-    (λ c. let call = c.before.before.before in
+    (λ c. let call = c in
     let s = start call.before in
-    refused s c.tally2.result c.tally2.ensures.0 c.tally2.ensures.1
-    (read-nan s.args.filling.now s.args.sizes.now s.args.inputs.now 1 _ call.ink2.ensures (omega (arith, s.pre.0.1)) c.before.enum-told2.given.1))
-    (λ c κs. (omega arith, omega (arith, (start (told c)).pre.0.1)))
+    refused s c.tally-in_default-second.result c.tally-in_default-second.ensures.0 c.tally-in_default-second.ensures.1
+    (read-nan s.args.filling.now s.args.sizes.now s.args.inputs.now 1 _ call.ink-second.ensures (omega (arith, s.requires.0.1)) c.in_default-second.is))
+    (λ c κs. (omega arith, omega (arith, (start (told c)).requires.0.1)))
     (λ c. search rules)
     (λ c. search rules)
     (λ c κs. tt)
-    (λ c. let call = c.before.before.before in
+    (λ c. let call = c in
     let s = start (told call.before) in
-    refused s c.tally3.result c.tally3.ensures.0 c.tally3.ensures.1
-    (read-nan s.args.filling.now s.args.sizes.now s.args.inputs.now 2 _ call.ink3.ensures (omega (arith, s.pre.0.1)) c.before.enum-told3.given.1))
+    refused s c.tally-in_default-third.result c.tally-in_default-third.ensures.0 c.tally-in_default-third.ensures.1
+    (read-nan s.args.filling.now s.args.sizes.now s.args.inputs.now 2 _ call.ink-third.ensures (omega (arith, s.requires.0.1)) c.in_default-third.is))
     (λ c. (proper c.before).1.1.0.0)
     (λ c. (proper c.before.before).1.0.0)
     (λ c. (proper c.before.before.before).0.0)
-    (λ c κs. let k = c.before.before.before in omega (arith, bytes k))
+    (λ c κs. let k = c in omega (arith, bytes k))
     (λ c. omega (arith, reached c.before.before.before.before.before.before, bytes c.before.before.before.before.before.before))
     (λ c. omega (arith, reached c.before.before.before.before.before.before.before, bytes c.before.before.before.before.before.before.before))
     (λ c. omega (arith, reached c.before.before.before.before.before.before.before.before, bytes c.before.before.before.before.before.before.before.before))
     (λ c. omega (arith, reached c.before.before.before.before.before.before.before.before, bytes c.before.before.before.before.before.before.before.before))
     (λ c. omega (arith, reached c.before.before.before.before.before.before.before.before, bytes c.before.before.before.before.before.before.before.before))
     (λ c. omega (arith, reached c.before.before.before.before.before.before.before.before, bytes c.before.before.before.before.before.before.before.before))
-    (λ c. (origin3 c.before.before.before.before.before).pre.1.1)
-    (λ c. let s = origin3 c.before.before.before.before.before.before in sym (prefix-count s.args.m s.args.answer.now s.pre.1.1))
-    (λ c κs. let p = c.before.before.before.before.before.before in
-    let s = origin3 p in
-    ((near p, room p c.before.before.if1.true), omega (arith, prefix-count s.args.m s.args.answer.now s.pre.1.1)))
+    (λ c. (origin3 c.before.before.before.before.before).requires.1.1)
+    (λ c. let s = origin3 c.before.before.before.before.before.before in sym (prefix-count s.args.m s.args.answer.now s.requires.1.1))
+    (λ c κs. let p = c in
+    let s = origin3 c.before.before.before.before.before.before in
+    ((near c.before.before.before.before.before.before, room p c.if-inputs-eq3.true), omega (arith, prefix-count s.args.m s.args.answer.now s.requires.1.1)))
     (λ c κs. tt)
-    (λ c. let call = c.before.before.before in
-    let s = origin3 call.before.before.before.before.before.before.before in
-    prefix-length s.args.m s.args.answer.now call.three.new.1.1.1.0 s.pre.1.1 (call.three.ensures.room ∙ prefix-count s.args.m s.args.answer.now s.pre.1.1))
-    (λ c. let call = c.before.before.before in
-    let p = call.before.before.before.before.before.before.before in
-    let is = call.before.before.before.if1.true in (
-      settled-as _ _ _ _ 0 _ _ c.tally4.ensures.0 (done p is _ call.three.ensures),
-      counts-as _ _ c.tally4.result (reads p is) c.tally4.ensures.1,
+    (λ c. let call = c in
+    let s = origin3 c.before.before.before.before.before.before.before.before.before.before in
+    prefix-length s.args.m s.args.answer.now call.three.new.out s.requires.1.1 (call.three.ensures.room ∙ prefix-count s.args.m s.args.answer.now s.requires.1.1))
+    (λ c. let call = c in
+    let p = c in
+    let is = call.if-inputs-eq3.true in (
+      settled-as _ _ _ _ 0 _ _ c.tally-then-inputs-eq3.ensures.0 (done p is _ call.three.ensures),
+      counts-as _ _ c.tally-then-inputs-eq3.result (reads p is) c.tally-then-inputs-eq3.ensures.1,
     ))
-    (λ c κs. let s = origin c.before.before.before.before.before.before.before.before in (omega arith, omega (arith, s.pre.0.1, c.if1.false)))
+    (λ c κs. let s = origin c.before.before.before.before.before.before.before.before in (omega arith, omega (arith, s.requires.0.1, c.if-inputs-eq3.false)))
     (λ c. search rules)
     (λ c. search rules)
     (λ c κs. tt)
-    (λ c. let call = c.before.before.before in
+    (λ c. let call = c in
     let s = origin c.before.before.before.before.before.before.before.before.before.before.before.before in
-    refused s c.tally5.result c.tally5.ensures.0 c.tally5.ensures.1
-    (read-nan s.args.filling.now s.args.sizes.now s.args.inputs.now 3 _ call.ink4.ensures (omega (arith, s.pre.0.1, call.before.if1.false)) c.before.enum-told4.given.1))
+    refused s c.tally-in_default-fourth.result c.tally-in_default-fourth.ensures.0 c.tally-in_default-fourth.ensures.1
+    (read-nan s.args.filling.now s.args.sizes.now s.args.inputs.now 3 _ call.ink-fourth.ensures (omega (arith, s.requires.0.1, call.if-inputs-eq3.false)) c.in_default-fourth.is))
     (λ c κs. tt)
-    (λ c. let k = c.before.before in omega (arith, four-starts k, four_bytes k))
-    (λ c. let k = c.before.before in omega (arith, four-starts k, four_bytes k))
-    (λ c. let k = c.before.before in omega (arith, four-starts k, four_bytes k))
-    (λ c. let k = c.before.before in omega (arith, four-starts k, four_bytes k))
-    (λ c. let k = c.before.before in omega (arith, four-starts k, four_bytes k))
+    (λ c. let k = c in omega (arith, four-starts k, four_bytes k))
+    (λ c. let k = c in omega (arith, four-starts k, four_bytes k))
+    (λ c. let k = c in omega (arith, four-starts k, four_bytes k))
+    (λ c. let k = c in omega (arith, four-starts k, four_bytes k))
+    (λ c. let k = c in omega (arith, four-starts k, four_bytes k))
     (λ c. ordered c.before.before.before.before)
-    (λ c. (origin4 c.before.before.before.before).pre.1.1)
-    (λ c. let s = origin4 c.before.before.before.before.before in sym (prefix-count s.args.m s.args.answer.now s.pre.1.1))
-    (λ c κs. let k = c.before.before.before.before.before in
+    (λ c. (origin4 c.before.before.before.before).requires.1.1)
+    (λ c. let s = origin4 c.before.before.before.before.before in sym (prefix-count s.args.m s.args.answer.now s.requires.1.1))
+    (λ c κs. let k = c in
     let s = origin4 k in
-    ((near (planned k), four-room k), omega (arith, prefix-count s.args.m s.args.answer.now s.pre.1.1)))
-    (λ c. let p = c.before.before.before.before.before.before.before in omega (arith, placed p))
-    (λ c κs. let p = c.before.before.before.before.before.before.before in (omega arith, omega (arith, placed p)))
+    ((near (planned k), four-room k), omega (arith, prefix-count s.args.m s.args.answer.now s.requires.1.1)))
+    (λ c. let p = c in omega (arith, placed p))
+    (λ c κs. let p = c in (omega arith, omega (arith, placed p)))
     (λ c κs. tt)
-    (λ c. let call = c.before.before.before.before in
+    (λ c. let call = c in
     let s = origin4 call.before.before.before.before.before.before in
-    prefix-length s.args.m s.args.answer.now call.four.new.1.1.1.1.1.1.0 s.pre.1.1 (call.four.ensures.room ∙ prefix-count s.args.m s.args.answer.now s.pre.1.1))
-    (λ c. let call = c.before.before.before.before in
-    let p = call.before.before.before.before.before in
-    let k = p.before in (
-      settled-as _ _ _ _ 0 _ _ c.tally6.ensures.0 (four-done k p.places.result p.places.ensures _ call.four.ensures),
-      counts-as _ _ c.tally6.result (c.before.reads_of.ensures ∙ four-reads k p.places.result p.places.ensures) c.tally6.ensures.1,
+    prefix-length s.args.m s.args.answer.now call.four.new.out s.requires.1.1 (call.four.ensures.room ∙ prefix-count s.args.m s.args.answer.now s.requires.1.1))
+    (λ c. let call = c in
+    let p = c in
+    let k = c in (
+      settled-as _ _ _ _ 0 _ _ c.tally-2.ensures.0 (four-done k p.places-places.result p.places-places.ensures _ call.four.ensures),
+      counts-as _ _ c.tally-2.result (c.reads_of.ensures ∙ four-reads k p.places-places.result p.places-places.ensures) c.tally-2.ensures.1,
     )))

@@ -18,45 +18,45 @@ use Rattle.walk.proofs.few.two.Statement.{statement}
 use Rattle.walk.proofs.few.two.Tie as tie
 
 -- where one block holds all
-module _ (c : tie.Else1) where
+module _ (c : tie.Else-not-one_block) where
   abbrev start : tie.Start
   start = c.before.before.before.before.before.before
 
   block : (start.args.m ≤ 4) × (start.args.d.x_n + start.args.c.x_n + 4 ≤ length start.args.part.now)
-  block = let held = c.before.one_block.ensures (not-false _ c.if1.false) in (held.0, omega (arith, held.1, start.pre.0.2))
+  block = let held = c.one_block.ensures c.if-not-one_block.false in (held.0, omega (arith, held.1, start.requires.0.2))
 
   bytes : length start.args.part.now * 4 < 9_223_372_036_854_775_808
-  bytes = start.good.0.1
+  bytes = start.well_formed.0.1
 
-pub two-spec : {M : Type 1} → statement M
-two-spec =
+pub two_spec : {M : Type 1} → statement M
+two_spec =
     tie.close
     (tie.spec
     (λ c. omega arith)
     (λ c. omega arith)
     (λ c κs. tt)
-    (λ c κs. let s = c.before.before.before.before.before.before.before in (omega (arith, s.requires.0.0, s.requires.0.1, s.requires.0.2), s.requires.1))
-    (λ c. same-room _ _ _ _ c.before.before.two-each.ensures)
-    (λ c. let s = c.before.before.before.before.before.before.before.before.before.before in written-gives _ s.args.m s.args.out.now _ s.requires.1 c.before.before.two-each.ensures)
-    (λ c. let k = c.before.before in omega (arith, (block k).1, bytes k, (start k).requires.0.0, (start k).requires.0.1))
-    (λ c κs. let k = c.before.before in omega (arith, (block k).1, (start k).requires.0.0, (start k).requires.0.1))
-    (λ c. let k = c.before.before.before.before.before in omega (arith, (block k).1, bytes k, (start k).requires.0.0, (start k).requires.0.1))
-    (λ c κs. let k = c.before.before.before.before.before in omega (arith, (block k).1, (start k).requires.0.0, (start k).requires.0.1))
+    (λ c κs. let s = c in (omega (arith, s.requires.0.0, s.requires.0.1, s.requires.0.2), s.requires.1))
+    (λ c. same-room _ _ _ _ c.two_each.ensures)
+    (λ c. let s = c in written-gives _ s.args.m s.args.out.now _ s.requires.1 c.two_each.ensures)
+    (λ c. let k = c in omega (arith, (block c.before.before).1, bytes c.before.before, (start c.before.before).requires.0.0, (start c.before.before).requires.0.1))
+    (λ c κs. let k = c in omega (arith, (block c.before.before).1, (start c.before.before).requires.0.0, (start c.before.before).requires.0.1))
+    (λ c. let k = c in omega (arith, (block c.before.before.before.before.before).1, bytes c.before.before.before.before.before, (start c.before.before.before.before.before).requires.0.0, (start c.before.before.before.before.before).requires.0.1))
+    (λ c κs. let k = c in omega (arith, (block c.before.before.before.before.before).1, (start c.before.before.before.before.before).requires.0.0, (start c.before.before.before.before.before).requires.0.1))
     (λ c κs. tt)
-    (λ c. let k = c.before.before.before.before.before.before.before.before.before in omega (arith, (block k).1, bytes k, (start k).requires.0.0, (start k).requires.0.1))
-    (λ c κs. let k = c.before.before.before.before.before.before.before.before.before in omega (arith, (block k).1, (start k).requires.0.0, (start k).requires.0.1))
-    (λ c κs. let k = c.before.before.before.before.before.before.before.before.before.before in omega (arith, (block k).1, (start k).requires.0.0, (start k).requires.0.1))
+    (λ c. let k = c in omega (arith, (block c.before.before.before.before.before.before.before.before.before).1, bytes c.before.before.before.before.before.before.before.before.before, (start c.before.before.before.before.before.before.before.before.before).requires.0.0, (start c.before.before.before.before.before.before.before.before.before).requires.0.1))
+    (λ c κs. let k = c in omega (arith, (block c.before.before.before.before.before.before.before.before.before).1, (start c.before.before.before.before.before.before.before.before.before).requires.0.0, (start c.before.before.before.before.before.before.before.before.before).requires.0.1))
+    (λ c κs. let k = c in omega (arith, (block c.before.before.before.before.before.before.before.before.before.before).1, (start c.before.before.before.before.before.before.before.before.before.before).requires.0.0, (start c.before.before.before.before.before.before.before.before.before.before).requires.0.1))
     (λ c κs. tt)
     (λ c κs. tt)
-    (λ c κs. (omega arith, (start c.before.before.before.before.before.before.before.before.before.before.before.before.before.before).pre.1))
-    (λ c. c.before.before.give.ensures.room)
-    (λ c. let k = c.before.before.before.before.before.before.before.before.before.before.before.before.before.before.before.before.before in
-    let s = start k in
-    block-gives (answer s.args.part.now (s.args.d ∷ s.args.c ∷ [])) s.args.m s.args.out.now _ c.before.before.before.before.along43.result (block k).0 c.before.before.give.ensures
-    (λ j h. lane-is _ (λ i. along (lane c.before.before.before.before.before.before.before.before.before.before.along4.result i) (lane c.before.before.before.before.before.along42.result i) s.args.d.w) c.before.before.before.before.along43.ensures j h
+    (λ c κs. (omega arith, (start c.before.before.before.before.before.before.before.before.before.before.before.before.before.before).requires.1))
+    (λ c. c.give.ensures.room)
+    (λ c. let k = c in
+    let s = start c.before.before.before.before.before.before.before.before.before.before.before.before.before.before.before.before.before in
+    block-gives (answer s.args.part.now (s.args.d ∷ s.args.c ∷ [])) s.args.m s.args.out.now _ c.along4.result (block c.before.before.before.before.before.before.before.before.before.before.before.before.before.before.before.before.before).0 c.give.ensures
+    (λ j h. lane-is _ (λ i. along (lane c.along4-below.result i) (lane c.along4-above.result i) s.args.d.w) c.along4.ensures j h
     ∙ ap₂ (λ (x y : Float). along x y s.args.d.w)
-    (lane-is _ (λ i. along (lane c.before.before.before.before.before.before.before.before.before.before.before.before.before.before.load.result i) (lane c.before.before.before.before.before.before.before.before.before.before.before.load2.result i) s.args.c.w) c.before.before.before.before.before.before.before.before.before.before.along4.ensures j h
-    ∙ ap₂ (λ (x y : Float). along x y s.args.c.w) (lane-is _ (λ i. at s.args.part.now (s.args.d.x + s.args.c.x + i)) c.before.before.before.before.before.before.before.before.before.before.before.before.before.before.load.ensures j h) (lane-is _ (λ i. at s.args.part.now (s.args.d.x + s.args.c.x_n + i)) c.before.before.before.before.before.before.before.before.before.before.before.load2.ensures j h))
-    (lane-is _ (λ i. along (lane c.before.before.before.before.before.before.before.load3.result i) (lane c.before.before.before.before.before.before.load4.result i) s.args.c.w) c.before.before.before.before.before.along42.ensures j h
-    ∙ ap₂ (λ (x y : Float). along x y s.args.c.w) (lane-is _ (λ i. at s.args.part.now (s.args.d.x_n + s.args.c.x + i)) c.before.before.before.before.before.before.before.load3.ensures j h) (lane-is _ (λ i. at s.args.part.now (s.args.d.x_n + s.args.c.x_n + i)) c.before.before.before.before.before.before.load4.ensures j h))
+    (lane-is _ (λ i. along (lane c.load.result i) (lane c.load-2.result i) s.args.c.w) c.along4-below.ensures j h
+    ∙ ap₂ (λ (x y : Float). along x y s.args.c.w) (lane-is _ (λ i. at s.args.part.now (s.args.d.x + s.args.c.x + i)) c.load.ensures j h) (lane-is _ (λ i. at s.args.part.now (s.args.d.x + s.args.c.x_n + i)) c.load-2.ensures j h))
+    (lane-is _ (λ i. along (lane c.load-3.result i) (lane c.load-4.result i) s.args.c.w) c.along4-above.ensures j h
+    ∙ ap₂ (λ (x y : Float). along x y s.args.c.w) (lane-is _ (λ i. at s.args.part.now (s.args.d.x_n + s.args.c.x + i)) c.load-3.ensures j h) (lane-is _ (λ i. at s.args.part.now (s.args.d.x_n + s.args.c.x_n + i)) c.load-4.ensures j h))
     ∙ two-inks s.args.part.now j s.args.c s.args.d)))

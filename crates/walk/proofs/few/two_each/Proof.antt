@@ -17,28 +17,28 @@ use Rattle.lookup.proofs.Turns.{Turned, Turn, turned_none, a_turn, turned_more, 
 use Rattle.walk.proofs.few.two_each.Statement.{statement}
 use Rattle.walk.proofs.few.two_each.Tie as tie
 
-abbrev invariant-loop : tie.invariant-loop
+abbrev invariant-loop : tie.invariant-loop-o
 invariant-loop part m out₀ x x-n v y y-n t o₀ out o =
     Turned (answer part (record { x = y; x_n = y-n; w = t } ∷ record { x = x; x_n = x-n; w = v } ∷ [])) m out₀ out o
 
-abbrev decreases-loop : tie.decreases-loop
+abbrev decreases-loop : tie.decreases-loop-o
 decreases-loop part m out₀ x x-n v y y-n t o₀ out o = m - o
 
-module _ (c : tie.In-loop invariant-loop decreases-loop) where
+module _ (c : tie.In-loop-o invariant-loop decreases-loop) where
   abbrev start : tie.Start invariant-loop decreases-loop
   start = c.before.before.before.before
 
-  at : (j i : Bool) → Place (node start.args.d j + node start.args.c i + c.before.loop.o) (length start.args.part.now)
-  at = two-place start.args.c start.args.d start.args.m _ _ c.loop-test.true start.good.0.1 start.pre.0
+  at : (j i : Bool) → Place (node start.args.d j + node start.args.c i + c.loop-o.o) (length start.args.part.now)
+  at = two-place start.args.c start.args.d start.args.m _ _ c.loop-o-test.true start.well_formed.0.1 start.requires.0
 
   sum : (j i : Bool) → Fits w64 (node start.args.d j + node start.args.c i)
   sum j i = Fits-le (le-add_right _ _) (at j i).fits
 
-  turn : Turn start.args.m c.before.loop.o (length c.before.loop.out)
-  turn = a_turn _ _ _ _ _ c.before.loop.invariant c.loop-test.true start.pre.1 start.good.1.1.1.1.0.1
+  turn : Turn start.args.m c.loop-o.o (length c.loop-o.out)
+  turn = a_turn _ _ _ _ _ c.loop-o.invariant c.loop-o-test.true start.requires.1 start.well_formed.1.1.1.1.0.1
 
-pub two-each-spec : {M : Type 1} → statement M
-two-each-spec =
+pub two_each_spec : {M : Type 1} → statement M
+two_each_spec =
     tie.close
     (tie.spec
     invariant-loop
@@ -67,10 +67,10 @@ two-each-spec =
     (λ c. (turn c.before.before.before.before.before.before.before).inside)
     (λ c. (turn c.before.before.before.before.before.before.before).next)
     (λ c. (turn c.before.before.before.before.before.before.before).fewer)
-    (λ c. let l = c.before.before.before.before.before.before.before.before.loop in
-    let s = c.before.before.before.before.before.before.before.before.before.before.before in
-    turned_more _ _ _ _ _ l.invariant c.before.before.before.before.before.before.before.loop-test.true _
-    (c.along3.ensures ∙ ap₂ (λ (a b : Float). along a b s.args.d.w) c.before.before.before.before.along.ensures c.before.along2.ensures
+    (λ c. let l = c.loop-o in
+    let s = c in
+    turned_more _ _ _ _ _ l.invariant c.loop-o-test.true _
+    (c.along.ensures ∙ ap₂ (λ (a b : Float). along a b s.args.d.w) c.along-below.ensures c.along-above.ensures
     ∙ two-inks s.args.part.now l.o s.args.c s.args.d))
-    (λ c. c.before.loop.invariant.room)
-    (λ c. turned-all _ _ _ _ _ c.before.loop.invariant c.loop-test.false))
+    (λ c. c.loop-o.invariant.room)
+    (λ c. turned-all _ _ _ _ _ c.loop-o.invariant c.loop-o-test.false))

@@ -2,12 +2,12 @@
 use Rattle.walk.proofs.lanes.along4.Statement.{statement}
 use Rattle.walk.proofs.lanes.along4.Tie as tie
 
-pub along4-spec : {M : Type 1} → statement M
-along4-spec =
+pub along4_spec : {M : Type 1} → statement M
+along4_spec =
     tie.close
     (tie.spec
     (λ c κs. tt)
     (λ c κs. tt)
     (λ c κs. tt)
     (λ c κs. tt)
-    (λ c i. record { a = c.before.before.before.along.ensures i; b = c.before.before.along2.ensures i; c = c.before.along3.ensures i; d = c.along4.ensures i }))
+    (λ c i. record { a = c.along.ensures i; b = c.along-2.ensures i; c = c.along-3.ensures i; d = c.along-4.ensures i }))

@@ -11,10 +11,10 @@ use Rattle.walk.proofs.Blocks.{given-block, given-none, given-next, three-stored
 use Rattle.walk.proofs.lanes.give.Statement.{statement}
 use Rattle.walk.proofs.lanes.give.Tie as tie
 
-abbrev invariant-loop : tie.invariant-loop
+abbrev invariant-loop : tie.invariant-loop-i
 invariant-loop o m out₀ lanes i₀ out i = (o + i ≤ m) × (length out ≡ length out₀) × (out ≡ written_from o (λ k. get_or lanes k nan) i out₀)
 
-abbrev decreases-loop : tie.decreases-loop
+abbrev decreases-loop : tie.decreases-loop-i
 decreases-loop o m out₀ lanes i₀ out i = m - (o + i)
 
 pub give_spec : {M : Type 1} → statement M
@@ -24,32 +24,32 @@ give_spec =
     invariant-loop
     decreases-loop
     (λ c. omega arith)
-    (λ c κs. let s = c.before.before.before in omega (arith, c.before.if1.true, s.requires))
-    (λ c. ap length c.before.before.put.ensures ∙ length-written-from _ _ 4 _)
-    (λ c. let s = c.before.before.before.before.before.before in given-block (lane s.args.f) s.args.o 4 s.args.m s.args.out.now _ c.before.before.put.ensures (omega (arith, c.before.before.before.before.if1.true, s.requires)) (λ k h less. h))
+    (λ c κs. let s = c in omega (arith, c.if-out-o-ge4.true, s.requires))
+    (λ c. ap length c.put.ensures ∙ length-written-from _ _ 4 _)
+    (λ c. let s = c in given-block (lane s.args.f) s.args.o 4 s.args.m s.args.out.now _ c.put.ensures (omega (arith, c.if-out-o-ge4.true, s.requires)) (λ k h less. h))
     (λ c. omega arith)
     (λ c. omega arith)
-    (λ c. let s = c.before.before.before in omega (arith, s.requires))
+    (λ c. let s = c in omega (arith, s.requires))
     (λ c. omega arith)
     (λ c. omega arith)
-    (λ c. let s = c.before.before.before in room-2 s.args.out.now s.args.o s.args.f.a (omega (arith, s.requires, c.if2.true)))
+    (λ c. let s = c in room-2 s.args.out.now s.args.o s.args.f.a (omega (arith, s.requires, c.if-m-o-eq3.true)))
     (λ c. omega arith)
     (λ c. omega arith)
-    (λ c. let s = c.before.before.before in room-3 s.args.out.now s.args.o s.args.f.a s.args.f.b (omega (arith, s.requires, c.if2.true)))
-    (λ c. let s = c.before.before.before in ap length (three-stored s.args.out.now s.args.o s.args.f) ∙ length-written-from _ _ 3 _)
-    (λ c. let s = c.before.before.before in
-    given-block (lane s.args.f) s.args.o 3 s.args.m s.args.out.now _ (three-stored s.args.out.now s.args.o s.args.f) (omega (arith, s.requires, c.if2.true)) (λ k h less. omega (arith, c.if2.true)))
-    (λ c. let s = c.before.before.before in (omega (arith, s.requires), refl, given-none (lane s.args.f) s.args.o s.args.out.now))
-    (λ c. omega arith)
-    (λ c. omega arith)
-    (λ c. omega arith)
+    (λ c. let s = c in room-3 s.args.out.now s.args.o s.args.f.a s.args.f.b (omega (arith, s.requires, c.if-m-o-eq3.true)))
+    (λ c. let s = c in ap length (three-stored s.args.out.now s.args.o s.args.f) ∙ length-written-from _ _ 3 _)
+    (λ c. let s = c in
+    given-block (lane s.args.f) s.args.o 3 s.args.m s.args.out.now _ (three-stored s.args.out.now s.args.o s.args.f) (omega (arith, s.requires, c.if-m-o-eq3.true)) (λ k h less. omega (arith, c.if-m-o-eq3.true)))
+    (λ c. let s = c in (omega (arith, s.requires), refl, given-none (lane s.args.f) s.args.o s.args.out.now))
     (λ c. omega arith)
     (λ c. omega arith)
     (λ c. omega arith)
     (λ c. omega arith)
     (λ c. omega arith)
-    (λ c. let s = c.before.before.before.before.before in let l = c.before.loop in (omega arith, simp length-set l.invariant.1, given-next (lane s.args.f) s.args.o l.i s.args.out.now _ l.invariant.2))
-    (λ c. c.before.loop.invariant.1)
-    (λ c. let s = c.before.before.before.before.before in
-    let l = c.before.loop in
-    given-block (lane s.args.f) s.args.o l.i s.args.m s.args.out.now _ l.invariant.2 (omega (arith, l.invariant.0, s.requires)) (λ k h less. omega (arith, c.loop-test.false))))
+    (λ c. omega arith)
+    (λ c. omega arith)
+    (λ c. omega arith)
+    (λ c. let s = c in let l = c.loop-i in (omega arith, simp length-set l.invariant.1, given-next (lane s.args.f) s.args.o l.i s.args.out.now _ l.invariant.2))
+    (λ c. c.loop-i.invariant.1)
+    (λ c. let s = c in
+    let l = c.loop-i in
+    given-block (lane s.args.f) s.args.o l.i s.args.m s.args.out.now _ l.invariant.2 (omega (arith, l.invariant.0, s.requires)) (λ k h less. omega (arith, c.loop-i-test.false))))

@@ -5,12 +5,12 @@ use Rattle.walk.proofs.Answers.{corners-fit, blocks-fit}
 use Rattle.walk.proofs.many.large.Statement.{statement}
 use Rattle.walk.proofs.many.large.Tie as tie
 
-pub large-spec : {M : Type 1} → statement M
-large-spec =
+pub large_spec : {M : Type 1} → statement M
+large_spec =
     tie.close
     (tie.spec
     (λ c. search rules)
     (λ c. search rules)
-    (λ c κs. let s = c.before.before.before.before.before in ((omega (arith, s.requires.0.0), s.requires.0.1, s.requires.0.2), (s.requires.1.0, (corners-fit 6 s.args.k s.requires.0.0, blocks-fit 6 s.args.k s.requires.0.0, s.requires.1.1))))
-    (λ c. c.before.before.before.before.walk.ensures.room)
-    (λ c. c.before.before.before.before.walk.ensures))
+    (λ c κs. let s = c in ((omega (arith, s.requires.0.0), s.requires.0.1, s.requires.0.2), (s.requires.1.0, (corners-fit 6 s.args.k s.requires.0.0, blocks-fit 6 s.args.k s.requires.0.0, s.requires.1.1))))
+    (λ c. c.walk.ensures.room)
+    (λ c. c.walk.ensures))

@@ -21,8 +21,8 @@ use Rattle.walk.proofs.many.many.Statement.{statement}
 use Rattle.walk.proofs.many.many.Tie as tie
 
 -- all inputs are numbers
-module _ (k : tie.After-known-told) where
-  abbrev call : tie.After-cells
+module _ (k : tie.In-At) where
+  abbrev call : tie.After-cells-lowest
   call = k.before.before.before
 
   abbrev start : tie.Start
@@ -35,26 +35,26 @@ module _ (k : tie.After-known-told) where
   inks = first_inks start.args.filling.now start.args.sizes.now inputs (length inputs)
 
   abbrev step : List ℕ
-  step = call.cells.last.1.1.1.0
+  step = call.cells-lowest.last.1.1.1.0
 
   abbrev w : List Float
-  w = call.cells.last.1.1.1.1.0
+  w = call.cells-lowest.last.1.1.1.1.0
 
   abbrev at : ℕ
-  at = k.before.lowest.given.0.0
+  at = k.in-At.at
 
   told : (some is_nan inputs ≡ false) × (at ≡ lows inks)
-  told = told_at inputs (lows inks) _ call.cells.ensures.0 at k.before.lowest.given.1
+  told = told_at inputs (lows inks) _ call.cells-lowest.ensures.0 at k.in-At.is
 
   steps : steps_at step w 0 (length inputs) ≡ stepped inks
-  steps = call.cells.ensures.1.0 told.0
+  steps = call.cells-lowest.ensures.1.0 told.0
 
   starts : at + start.args.m ≤ length start.args.table.now
-  starts = part-starts start.args.filling.now start.args.sizes.now inputs start.args.m start.pre.0.0 start.args.table.now start.pre.1.0 (length inputs) refl inks refl at told.1
+  starts = part-starts start.args.filling.now start.args.sizes.now inputs start.args.m start.requires.0.0 start.args.table.now start.requires.1.0 (length inputs) refl inks refl at told.1
 
 -- those that are kept
-module _ (q : tie.After-keep) where
-  abbrev known : tie.After-known-told
+module _ (q : tie.After-keep-n) where
+  abbrev known : tie.In-At
   known = q.before.before.before
 
   abbrev origin : tie.Start
@@ -64,74 +64,74 @@ module _ (q : tie.After-keep) where
   skip = skip_of origin.args.skipping
 
   abbrev step' : List ℕ
-  step' = q.keep.last.0
+  step' = q.keep-n.new.step
 
   abbrev w' : List Float
-  w' = q.keep.last.1.0
+  w' = q.keep-n.new.w.0
 
-  are : steps_at step' w' 0 q.keep.result ≡ kept_at skip (step known) (w known) (length (inputs known))
-  are = q.keep.ensures.0
+  are : steps_at step' w' 0 q.keep-n.result ≡ kept_at skip (step known) (w known) (length (inputs known))
+  are = q.keep-n.ensures.0
 
   abbrev from : List Float
   from = take (length origin.args.table.now - at known) (drop (at known) origin.args.table.now)
 
-  weights : Weighed w' q.keep.result
+  weights : Weighed w' q.keep-n.result
   weights =
-      array-weights origin.args.filling.now origin.args.sizes.now (inputs known) origin.args.m origin.pre.0.0 origin.args.table.now origin.pre.1.0 (length (inputs known)) refl (inks known) refl
-      (at known) (told known).1 (step known) (w known) (steps known) origin.pre.0.1 skip step' w' q.keep.result are
+      array-weights origin.args.filling.now origin.args.sizes.now (inputs known) origin.args.m origin.requires.0.0 origin.args.table.now origin.requires.1.0 (length (inputs known)) refl (inks known) refl
+      (at known) (told known).1 (step known) (w known) (steps known) origin.requires.0.1 skip step' w' q.keep-n.result are
 
-  reached : reach (steps_at step' w' 0 q.keep.result) + origin.args.m ≤ length from
+  reached : reach (steps_at step' w' 0 q.keep-n.result) + origin.args.m ≤ length from
   reached =
-      array-reach origin.args.filling.now origin.args.sizes.now (inputs known) origin.args.m origin.pre.0.0 origin.args.table.now origin.pre.1.0 (length (inputs known)) refl (inks known) refl
-      (at known) (told known).1 (step known) (w known) (steps known) origin.pre.0.1 skip step' w' q.keep.result are
+      array-reach origin.args.filling.now origin.args.sizes.now (inputs known) origin.args.m origin.requires.0.0 origin.args.table.now origin.requires.1.0 (length (inputs known)) refl (inks known) refl
+      (at known) (told known).1 (step known) (w known) (steps known) origin.requires.0.1 skip step' w' q.keep-n.result are
 
   done : (part : List Float)
-      → Gives (answer from (steps_at step' w' 0 q.keep.result)) origin.args.m (take origin.args.m origin.args.answer.now) part
+      → Gives (answer from (steps_at step' w' 0 q.keep-n.result)) origin.args.m (take origin.args.m origin.args.answer.now) part
       → Settled (answer_in skip (last_first (length (inputs known)) origin.args.sizes.now) origin.args.m origin.args.table.now (inputs known)) origin.args.m (inputs known) origin.args.answer.now 0
       (part ++ drop origin.args.m origin.args.answer.now)
   done part given =
-      array-done origin.args.filling.now origin.args.sizes.now (inputs known) origin.args.m origin.pre.0.0 origin.args.table.now origin.pre.1.0 (length (inputs known)) refl (inks known) refl
-      (at known) (told known).1 (step known) (w known) (steps known) origin.pre.0.1 skip step' w' q.keep.result are
-      (told known).0 origin.args.answer.now part origin.pre.1.1 given
+      array-done origin.args.filling.now origin.args.sizes.now (inputs known) origin.args.m origin.requires.0.0 origin.args.table.now origin.requires.1.0 (length (inputs known)) refl (inks known) refl
+      (at known) (told known).1 (step known) (w known) (steps known) origin.requires.0.1 skip step' w' q.keep-n.result are
+      (told known).0 origin.args.answer.now part origin.requires.1.1 given
 
-  counted : 6 * 2 ^ (q.keep.result - 3) ≡ reads_in skip (last_first (length (inputs known)) origin.args.sizes.now) (inputs known)
+  counted : 6 * 2 ^ (q.keep-n.result - 3) ≡ reads_in skip (last_first (length (inputs known)) origin.args.sizes.now) (inputs known)
   counted =
-      array-reads origin.args.filling.now origin.args.sizes.now (inputs known) origin.args.m origin.pre.0.0 origin.args.table.now origin.pre.1.0 (length (inputs known)) refl (inks known) refl
-      (at known) (told known).1 (step known) (w known) (steps known) origin.pre.0.1 skip step' w' q.keep.result are
+      array-reads origin.args.filling.now origin.args.sizes.now (inputs known) origin.args.m origin.requires.0.0 origin.args.table.now origin.requires.1.0 (length (inputs known)) refl (inks known) refl
+      (at known) (told known).1 (step known) (w known) (steps known) origin.requires.0.1 skip step' w' q.keep-n.result are
 
-pub many-spec : {M : Type 1} → statement M
-many-spec =
+pub many_spec : {M : Type 1} → statement M
+many_spec =
     tie.close
     (tie.spec
-    (λ c κs. let s = c.before.before.before.before.before in
+    (λ c κs. let s = c in
     (s.requires.0.0.inks-to, (s.requires.0.0.narrow, (omega (arith, cells-reach s.args.filling.now s.args.sizes.now s.args.inputs.now s.args.m s.requires.0.0 s.args.table.now s.requires.1.0 (length s.args.inputs.now) _ refl (omega arith)), (refl, refl)))))
     (λ c. search rules)
     (λ c. search rules)
     (λ c κs. tt)
-    (λ c. let call = c.before.before.before in (
-      settled-as _ _ _ _ 16 _ _ c.tally.ensures.0 (settled-nan _ _ _ _ (told-nan _ _ _ call.cells.ensures.0 c.before.enum_told.given.1)),
+    (λ c. let call = c in (
+      settled-as _ _ _ _ 16 _ _ c.tally.ensures.0 (settled-nan _ _ _ _ (told-nan _ _ _ call.cells-lowest.ensures.0 c.in_default.is)),
       refused-counts _ c.tally.result 16 c.tally.ensures.0 (λ z. omega arith) c.tally.ensures.1,
     ))
     (λ c κs. let k = c.before.before in
     let s = start k in
-    (s.pre.0.1, s.pre.0.0.inks-to, (call k).cells.ensures.1.1.0, (call k).cells.ensures.1.1.1))
+    (s.requires.0.1, s.requires.0.0.inks-to, (call k).cells-lowest.ensures.1.1.0, (call k).cells-lowest.ensures.1.1.1))
     (λ c. omega (arith, starts (known c)))
     (λ c. omega (arith, starts (known c)))
     (λ c. omega (arith, starts (known c)))
     (λ c. omega (arith, starts (known c)))
-    (λ c. (origin c.before.before.before).pre.1.1)
-    (λ c. let s = origin c.before.before.before.before in sym (prefix-count s.args.m s.args.answer.now s.pre.1.1))
+    (λ c. (origin c.before.before.before).requires.1.1)
+    (λ c. let s = origin c.before.before.before.before in sym (prefix-count s.args.m s.args.answer.now s.requires.1.1))
     (λ c κs. let q = c.before.before.before.before in
     let s = origin q in
-    ((q.keep.ensures.1.0, omega (arith, q.keep.ensures.1.1, s.pre.0.0.inks-to), s.pre.0.0.outputs-to), ((λ i h. weights q i (omega (arith, q.keep.ensures.1.0))), (reached q, omega (arith, prefix-count s.args.m s.args.answer.now s.pre.1.1)))))
+    ((q.keep-n.ensures.1.0, omega (arith, q.keep-n.ensures.1.1, s.requires.0.0.inks-to), s.requires.0.0.outputs-to), ((λ i h. weights q i (omega (arith, q.keep-n.ensures.1.0))), (reached q, omega (arith, prefix-count s.args.m s.args.answer.now s.requires.1.1)))))
     (λ c κs. let q = c.before.before.before.before.before.before.before in
-    (q.keep.ensures.1.0, omega (arith, q.keep.ensures.1.1, (origin q).requires.0.0.inks-to)))
+    (q.keep-n.ensures.1.0, omega (arith, q.keep-n.ensures.1.1, (origin q).requires.0.0.inks-to)))
     (λ c κs. tt)
-    (λ c. let blended = c.before.before.before.before in
+    (λ c. let blended = c in
     let s = origin blended.before.before.before.before.before in
-    prefix-length s.args.m s.args.answer.now blended.blend.new.1.1.1.1.1.0 s.pre.1.1 (blended.blend.ensures.room ∙ prefix-count s.args.m s.args.answer.now s.pre.1.1))
-    (λ c. let blended = c.before.before.before.before in
+    prefix-length s.args.m s.args.answer.now blended.blend.new.out s.requires.1.1 (blended.blend.ensures.room ∙ prefix-count s.args.m s.args.answer.now s.requires.1.1))
+    (λ c. let blended = c in
     let q = blended.before.before.before.before.before in (
-      settled-as _ _ _ _ 0 _ _ c.tally2.ensures.0 (done q _ blended.blend.ensures),
-      counts-as _ _ c.tally2.result (c.before.reads_of.ensures ∙ counted q) c.tally2.ensures.1,
+      settled-as _ _ _ _ 0 _ _ c.tally-2.ensures.0 (done q _ blended.blend.ensures),
+      counts-as _ _ c.tally-2.result (c.reads_of.ensures ∙ counted q) c.tally-2.ensures.1,
     )))

@@ -14,14 +14,14 @@ use Rattle.walk.proofs.Answers.{top-inside, folded-block}
 use Rattle.walk.proofs.many.outer.Statement.{statement}
 use Rattle.walk.proofs.many.outer.Tie as tie
 
-abbrev invariant-loop : tie.invariant-loop
+abbrev invariant-loop : tie.invariant-loop-c
 invariant-loop t step w e j left offs corners tops count work₀ high₀ c₀ work high c = (c ≤ count) × (length work ≡ length work₀) × Cornered (λ o. above (tetra_of (first_three step w) o) (steps_at step w 3 e)) tops t left c high₀ high
 
-abbrev decreases-loop : tie.decreases-loop
+abbrev decreases-loop : tie.decreases-loop-c
 decreases-loop t step w e j left offs corners tops count work₀ high₀ c₀ work high c = count - c
 
-pub outer-spec : {M : Type 1} → statement M
-outer-spec =
+pub outer_spec : {M : Type 1} → statement M
+outer_spec =
     tie.close
     (tie.spec
     invariant-loop
@@ -29,25 +29,25 @@ outer-spec =
     (λ c. (omega arith, refl, cornered-none _ _ _ _ _))
     (λ c. omega arith)
     (λ c. omega arith)
-    (λ c. omega (arith, c.before.before.loop-test.true, c.before.before.before.before.before.before.before.before.before.requires.0.3))
-    (λ c. let s = c.before.before.before.before.before.before.before.before.before in omega (arith, top-inside s.args.step.now s.args.w.now s.args.e s.args.j s.args.tops.now s.requires.1.1.1.1 s.args.count s.args.left (length s.args.t.now) s.requires.0.1 s.requires.1.1.0 c.before.before.before.loop.c c.before.before.loop-test.true))
-    (λ c. let s = c.before.before.before.before.before.before.before.before.before in omega (arith, top-inside s.args.step.now s.args.w.now s.args.e s.args.j s.args.tops.now s.requires.1.1.1.1 s.args.count s.args.left (length s.args.t.now) s.requires.0.1 s.requires.1.1.0 c.before.before.before.loop.c c.before.before.loop-test.true))
-    (λ c. let s = c.before.before.before.before.before.before.before.before.before in omega (arith, top-inside s.args.step.now s.args.w.now s.args.e s.args.j s.args.tops.now s.requires.1.1.1.1 s.args.count s.args.left (length s.args.t.now) s.requires.0.1 s.requires.1.1.0 c.before.before.before.loop.c c.before.before.loop-test.true))
-    (λ c. let s = c.before.before.before.before.before.before.before.before.before in omega (arith, top-inside s.args.step.now s.args.w.now s.args.e s.args.j s.args.tops.now s.requires.1.1.1.1 s.args.count s.args.left (length s.args.t.now) s.requires.0.1 s.requires.1.1.0 c.before.before.before.loop.c c.before.before.loop-test.true))
-    (λ c κs. let s = c.before.before.before.before.before.before.before.before.before.before.before in ((omega (arith, s.requires.0.0), s.requires.1.0.0, s.requires.1.0.1, omega (arith, s.requires.1.0.2, c.before.before.before.before.before.loop.invariant.1)), (rw from-length (omega (arith, top-inside s.args.step.now s.args.w.now s.args.e s.args.j s.args.tops.now s.requires.1.1.1.1 s.args.count s.args.left (length s.args.t.now) s.requires.0.1 s.requires.1.1.0 c.before.before.before.before.before.loop.c c.before.before.before.before.loop-test.true)), s.requires.1.1.1.0)))
-    (λ c κs. omega (arith, c.before.before.before.before.before.before.before.loop-test.true, c.before.before.before.before.before.before.before.before.before.before.before.before.before.before.requires.0.3, c.before.before.before.before.before.before.before.before.loop.invariant.2.room))
-    (λ c. omega (arith, c.before.before.before.before.before.before.before.before.before.before.loop-test.true))
-    (λ c. omega (arith, c.before.before.before.before.before.before.before.before.before.before.loop-test.true))
-    (λ c. let s = c.before.before.before.before.before.before.before.before.before.before.before.before.before.before.before.before.before in
-    let l = c.before.before.before.before.before.before.before.before.before.before.before.loop in
-    (omega (arith, c.before.before.before.before.before.before.before.before.before.before.loop-test.true), c.before.before.before.before.before.inner.ensures.1 ∙ l.invariant.1, cornered-more (λ o. above (tetra_of (first_three s.args.step.now s.args.w.now) o) (steps_at s.args.step.now s.args.w.now 3 s.args.e)) s.args.tops.now s.args.t.now s.args.left s.args.high.now l.high l.c l.invariant.2 _ _ (omega (arith, c.before.before.before.before.before.before.before.before.before.before.loop-test.true, s.requires.0.3)) c.before.before.before.before.before.inner.ensures.0 c.before.before.put.ensures))
+    (λ c. omega (arith, c.loop-c-test.true, c.requires.0.3))
+    (λ c. let s = c in omega (arith, top-inside s.args.step.now s.args.w.now s.args.e s.args.j s.args.tops.now s.requires.1.1.1.1 s.args.count s.args.left (length s.args.t.now) s.requires.0.1 s.requires.1.1.0 c.loop-c.c c.loop-c-test.true))
+    (λ c. let s = c in omega (arith, top-inside s.args.step.now s.args.w.now s.args.e s.args.j s.args.tops.now s.requires.1.1.1.1 s.args.count s.args.left (length s.args.t.now) s.requires.0.1 s.requires.1.1.0 c.loop-c.c c.loop-c-test.true))
+    (λ c. let s = c in omega (arith, top-inside s.args.step.now s.args.w.now s.args.e s.args.j s.args.tops.now s.requires.1.1.1.1 s.args.count s.args.left (length s.args.t.now) s.requires.0.1 s.requires.1.1.0 c.loop-c.c c.loop-c-test.true))
+    (λ c. let s = c in omega (arith, top-inside s.args.step.now s.args.w.now s.args.e s.args.j s.args.tops.now s.requires.1.1.1.1 s.args.count s.args.left (length s.args.t.now) s.requires.0.1 s.requires.1.1.0 c.loop-c.c c.loop-c-test.true))
+    (λ c κs. let s = c in ((omega (arith, s.requires.0.0), s.requires.1.0.0, s.requires.1.0.1, omega (arith, s.requires.1.0.2, c.loop-c.invariant.1)), (rw from-length (omega (arith, top-inside s.args.step.now s.args.w.now s.args.e s.args.j s.args.tops.now s.requires.1.1.1.1 s.args.count s.args.left (length s.args.t.now) s.requires.0.1 s.requires.1.1.0 c.loop-c.c c.loop-c-test.true)), s.requires.1.1.1.0)))
+    (λ c κs. omega (arith, c.loop-c-test.true, c.requires.0.3, c.loop-c.invariant.2.room))
+    (λ c. omega (arith, c.loop-c-test.true))
+    (λ c. omega (arith, c.loop-c-test.true))
+    (λ c. let s = c in
+    let l = c.loop-c in
+    (omega (arith, c.loop-c-test.true), c.inner.ensures.1 ∙ l.invariant.1, cornered-more (λ o. above (tetra_of (first_three s.args.step.now s.args.w.now) o) (steps_at s.args.step.now s.args.w.now 3 s.args.e)) s.args.tops.now s.args.t.now s.args.left s.args.high.now l.high l.c l.invariant.2 _ _ (omega (arith, c.loop-c-test.true, s.requires.0.3)) c.inner.ensures.0 c.put.ensures))
     (λ c. omega arith)
-    (λ c κs. let s = c.before.before.before.before.before.before.before.before in (s.requires.0.0, s.requires.0.1, omega (arith, s.requires.0.3, c.before.before.loop.invariant.2.room)))
-    (λ c κs. let s = c.before.before.before.before.before.before.before.before.before.before.before.before in omega (arith, s.requires.0.3, s.requires.0.1, one-le-pow s.args.j 2 (zero-lt-suc 1), c.before.before.before.folds.ensures.room, c.before.before.before.before.before.before.loop.invariant.2.room))
-    (λ c. c.before.before.before.before.before.before.before.loop.invariant.1)
-    (λ c. c.before.before.before.before.folds.ensures.room ∙ c.before.before.before.before.before.before.before.loop.invariant.2.room)
-    (λ c. let s = c.before.before.before.before.before.before.before.before.before.before.before.before.before in
-    let l = c.before.before.before.before.before.before.before.loop in
-    let all : l.c ≡ s.args.count = omega (arith, l.invariant.0, c.before.before.before.before.before.before.loop-test.false) in
+    (λ c κs. let s = c in (s.requires.0.0, s.requires.0.1, omega (arith, s.requires.0.3, c.loop-c.invariant.2.room)))
+    (λ c κs. let s = c in omega (arith, s.requires.0.3, s.requires.0.1, one-le-pow s.args.j 2 (zero-lt-suc 1), c.folds.ensures.room, c.loop-c.invariant.2.room))
+    (λ c. c.loop-c.invariant.1)
+    (λ c. c.folds.ensures.room ∙ c.loop-c.invariant.2.room)
+    (λ c. let s = c in
+    let l = c.loop-c in
+    let all : l.c ≡ s.args.count = omega (arith, l.invariant.0, c.loop-c-test.false) in
     let cornered = subst (λ (n : ℕ). Cornered (λ o. above (tetra_of (first_three s.args.step.now s.args.w.now) o) (steps_at s.args.step.now s.args.w.now 3 s.args.e)) s.args.tops.now s.args.t.now s.args.left n s.args.high.now l.high) all l.invariant.2 in
-    (folded-block (λ o. above (tetra_of (first_three s.args.step.now s.args.w.now) o) (steps_at s.args.step.now s.args.w.now 3 s.args.e)) s.args.step.now s.args.w.now (s.args.e + 3) s.args.j s.args.tops.now s.requires.1.1.1.1 s.args.count s.requires.0.1 s.args.t.now s.args.left _ _ _ cornered c.before.before.before.before.folds.ensures _ c.load.ensures, (l.invariant.1, c.before.before.before.before.folds.ensures.room ∙ l.invariant.2.room))))
+    (folded-block (λ o. above (tetra_of (first_three s.args.step.now s.args.w.now) o) (steps_at s.args.step.now s.args.w.now 3 s.args.e)) s.args.step.now s.args.w.now (s.args.e + 3) s.args.j s.args.tops.now s.requires.1.1.1.1 s.args.count s.requires.0.1 s.args.t.now s.args.left _ _ _ cornered c.folds.ensures _ c.load.ensures, (l.invariant.1, c.folds.ensures.room ∙ l.invariant.2.room))))

@@ -13,49 +13,49 @@ use Rattle.walk.proofs.Answers.{Upto, upto-none, upto-more, upto_all, inks-reach
 use Rattle.walk.proofs.many.tower.Statement.{statement}
 use Rattle.walk.proofs.many.tower.Tie as tie
 
-abbrev invariant-loop : tie.invariant-loop
+abbrev invariant-loop : tie.invariant-loop-o
 invariant-loop t step w e j m offs tops work₀ high₀ out₀ corners count o₀ work high out o = (length work ≡ length work₀) × (length high ≡ length high₀) × Upto (answer t (steps_at step w 0 (j + (e + 3)))) o m out₀ out
 
-abbrev decreases-loop : tie.decreases-loop
+abbrev decreases-loop : tie.decreases-loop-o
 decreases-loop t step w e j m offs tops work₀ high₀ out₀ corners count o₀ work high out o = m + 3 - o
 
-pub tower-spec : {M : Type 1} → statement M
-tower-spec =
+pub tower_spec : {M : Type 1} → statement M
+tower_spec =
     tie.close
     (tie.spec
     invariant-loop
     decreases-loop
-    (λ c κs. let s = c.before.before.before.before.before.before.before in ((omega (arith, s.requires.0.0), s.requires.1.1.0.0), omega (arith, s.requires.1.0, inks-reach s.args.step.now s.args.w.now s.args.e, tower-reach s.args.step.now s.args.w.now s.args.e s.args.j, reach-any s.args.step.now [] s.args.w.now 3 s.args.e)))
+    (λ c κs. let s = c in ((omega (arith, s.requires.0.0), s.requires.1.1.0.0), omega (arith, s.requires.1.0, inks-reach s.args.step.now s.args.w.now s.args.e, tower-reach s.args.step.now s.args.w.now s.args.e s.args.j, reach-any s.args.step.now [] s.args.w.now 3 s.args.e)))
     (λ c. omega arith)
-    (λ c κs. let s = c.before.before.before.before.before.before.before.before.before.before.before in ((s.requires.0.0, s.requires.1.1.1.0), omega (arith, s.requires.1.0, inks-reach s.args.step.now s.args.w.now s.args.e, tower-reach s.args.step.now s.args.w.now s.args.e s.args.j, reach-any s.args.step.now [] s.args.w.now (s.args.e + 3) s.args.j)))
+    (λ c κs. let s = c in ((s.requires.0.0, s.requires.1.1.1.0), omega (arith, s.requires.1.0, inks-reach s.args.step.now s.args.w.now s.args.e, tower-reach s.args.step.now s.args.w.now s.args.e s.args.j, reach-any s.args.step.now [] s.args.w.now (s.args.e + 3) s.args.j)))
     (λ c. (refl, refl, upto-none _ _ _))
-    (λ c. omega (arith, c.loop-test.true, c.before.before.before.before.before.before.before.before.before.before.before.before.before.before.before.before.requires.1.0))
-    (λ c. omega (arith, c.loop-test.true, c.before.before.before.before.before.before.before.before.before.before.before.before.before.before.before.before.requires.1.0))
-    (λ c. omega (arith, c.loop-test.true, c.before.before.before.before.before.before.before.before.before.before.before.before.before.before.before.before.requires.1.0))
-    (λ c. omega (arith, c.loop-test.true, c.before.before.before.before.before.before.before.before.before.before.before.before.before.before.before.before.requires.1.0))
-    (λ c. omega (arith, c.before.loop-test.true))
-    (λ c κs. let s = c.before.before.before.before.before.before.before.before.before.before.before.before.before.before.before.before.before.before.before.before.before in
-    let d = c.before.before.before.before.before.before.before.before.before.before.before.before.before.distances in
-    let u = c.before.before.before.before.before.before.before.before.before.distances2 in
-    let l = c.before.before.before.before.before.before.loop in (
+    (λ c. omega (arith, c.loop-o-test.true, c.requires.1.0))
+    (λ c. omega (arith, c.loop-o-test.true, c.requires.1.0))
+    (λ c. omega (arith, c.loop-o-test.true, c.requires.1.0))
+    (λ c. omega (arith, c.loop-o-test.true, c.requires.1.0))
+    (λ c. omega (arith, c.loop-o-test.true))
+    (λ c κs. let s = c in
+    let d = c.distances-corners in
+    let u = c.distances-count in
+    let l = c.loop-o in (
       (s.requires.0.0, u.ensures.0, omega (arith, u.ensures.0, u.ensures.1.room, s.requires.1.1.1.0), omega (arith, u.ensures.0, l.invariant.1, s.requires.1.1.1.1)),
       (
         (d.ensures.0, omega (arith, d.ensures.0, d.ensures.1.room, s.requires.1.1.0.0), omega (arith, d.ensures.0, l.invariant.0, s.requires.1.1.0.1)),
-        (rw from-length (omega (arith, c.before.before.before.before.before.loop-test.true, s.requires.1.0)), (d.ensures.1.stand, u.ensures.1.stand)),
+        (rw from-length (omega (arith, c.loop-o-test.true, s.requires.1.0)), (d.ensures.1.stand, u.ensures.1.stand)),
       ),
     ))
-    (λ c κs. (omega (arith, c.before.before.before.before.before.before.before.before.before.before.before.loop-test.true), omega (arith, c.before.before.before.before.before.before.before.before.before.before.before.before.before.before.before.before.before.before.before.before.before.before.before.before.before.before.before.requires.1.1.1.2, c.before.before.before.before.before.before.before.before.before.before.before.before.loop.invariant.2.room)))
-    (λ c. omega (arith, c.before.before.before.before.before.before.before.before.before.before.before.before.before.before.loop-test.true, c.before.before.before.before.before.before.before.before.before.before.before.before.before.before.before.before.before.before.before.before.before.before.before.before.before.before.before.before.before.before.requires.0.1))
-    (λ c. omega (arith, c.before.before.before.before.before.before.before.before.before.before.before.before.before.before.loop-test.true))
-    (λ c. let s = c.before.before.before.before.before.before.before.before.before.before.before.before.before.before.before.before.before.before.before.before.before.before.before.before.before.before.before.before.before.before in
-    let l = c.before.before.before.before.before.before.before.before.before.before.before.before.before.before.before.loop in
-    let f = c.before.before.before.before.before.before.before.before.outer in
-    (f.ensures.1.0 ∙ l.invariant.0, f.ensures.1.1 ∙ l.invariant.1, upto-more (answer s.args.t.now (steps_at s.args.step.now s.args.w.now 0 (s.args.j + (s.args.e + 3)))) s.args.m s.args.out.now l.o l.out _ (lane f.result) l.invariant.2 c.before.before.before.before.before.before.before.before.before.before.before.before.before.before.loop-test.true c.before.before.give.ensures (tower-given s.args.step.now s.args.w.now s.args.e s.args.j s.requires.0.2 s.args.t.now l.o s.args.m f.result f.ensures.0)))
-    (λ c. c.before.before.before.before.before.before.before.before.distances.ensures.1.room)
-    (λ c. c.before.before.before.before.distances2.ensures.1.room)
-    (λ c. c.before.loop.invariant.0)
-    (λ c. c.before.loop.invariant.1)
-    (λ c. c.before.loop.invariant.2.room)
-    (λ c. let s = c.before.before.before.before.before.before.before.before.before.before.before.before.before.before.before.before in
-    let l = c.before.loop in
-    upto_all (answer s.args.t.now (steps_at s.args.step.now s.args.w.now 0 (s.args.j + (s.args.e + 3)))) s.args.m s.args.out.now l.o l.out l.invariant.2 c.loop-test.false))
+    (λ c κs. (omega (arith, c.loop-o-test.true), omega (arith, c.requires.1.1.1.2, c.loop-o.invariant.2.room)))
+    (λ c. omega (arith, c.loop-o-test.true, c.requires.0.1))
+    (λ c. omega (arith, c.loop-o-test.true))
+    (λ c. let s = c in
+    let l = c.loop-o in
+    let f = c.outer-f in
+    (f.ensures.1.0 ∙ l.invariant.0, f.ensures.1.1 ∙ l.invariant.1, upto-more (answer s.args.t.now (steps_at s.args.step.now s.args.w.now 0 (s.args.j + (s.args.e + 3)))) s.args.m s.args.out.now l.o l.out _ (lane f.result) l.invariant.2 c.loop-o-test.true c.give.ensures (tower-given s.args.step.now s.args.w.now s.args.e s.args.j s.requires.0.2 s.args.t.now l.o s.args.m f.result f.ensures.0)))
+    (λ c. c.distances-corners.ensures.1.room)
+    (λ c. c.distances-count.ensures.1.room)
+    (λ c. c.loop-o.invariant.0)
+    (λ c. c.loop-o.invariant.1)
+    (λ c. c.loop-o.invariant.2.room)
+    (λ c. let s = c in
+    let l = c.loop-o in
+    upto_all (answer s.args.t.now (steps_at s.args.step.now s.args.w.now 0 (s.args.j + (s.args.e + 3)))) s.args.m s.args.out.now l.o l.out l.invariant.2 c.loop-o-test.false))

@@ -13,38 +13,38 @@ use Rattle.walk.proofs.Answers.{Upto, upto-none, upto-more, upto_all, inks-reach
 use Rattle.walk.proofs.many.walk.Statement.{statement}
 use Rattle.walk.proofs.many.walk.Tie as tie
 
-abbrev invariant-loop : tie.invariant-loop
+abbrev invariant-loop : tie.invariant-loop-o
 invariant-loop t step w k m offs work₀ out₀ count o₀ work out o = (length work ≡ length work₀) × Upto (answer t (steps_at step w 0 (k + 3))) o m out₀ out
 
-abbrev decreases-loop : tie.decreases-loop
+abbrev decreases-loop : tie.decreases-loop-o
 decreases-loop t step w k m offs work₀ out₀ count o₀ work out o = m + 3 - o
 
-pub walk-spec : {M : Type 1} → statement M
-walk-spec =
+pub walk_spec : {M : Type 1} → statement M
+walk_spec =
     tie.close
     (tie.spec
     invariant-loop
     decreases-loop
-    (λ c κs. let s = c.before.before.before.before.before in ((omega (arith, s.requires.0.0), s.requires.1.1.0), omega (arith, s.requires.1.0, inks-reach s.args.step.now s.args.w.now s.args.k, reach-any s.args.step.now [] s.args.w.now 3 s.args.k)))
+    (λ c κs. let s = c in ((omega (arith, s.requires.0.0), s.requires.1.1.0), omega (arith, s.requires.1.0, inks-reach s.args.step.now s.args.w.now s.args.k, reach-any s.args.step.now [] s.args.w.now 3 s.args.k)))
     (λ c. (refl, upto-none _ _ _))
-    (λ c. omega (arith, c.loop-test.true, c.before.before.before.before.before.before.before.before.before.before.requires.1.0))
-    (λ c. omega (arith, c.loop-test.true, c.before.before.before.before.before.before.before.before.before.before.requires.1.0))
-    (λ c. omega (arith, c.loop-test.true, c.before.before.before.before.before.before.before.before.before.before.requires.1.0))
-    (λ c. omega (arith, c.loop-test.true, c.before.before.before.before.before.before.before.before.before.before.requires.1.0))
-    (λ c. omega (arith, c.before.loop-test.true))
-    (λ c κs. let s = c.before.before.before.before.before.before.before.before.before.before.before.before.before in
-    let d = c.before.before.before.before.before.before.before.distances in
-    ((omega (arith, s.requires.0.0), d.ensures.0, omega (arith, d.ensures.0, d.ensures.1.room, s.requires.1.1.0), omega (arith, d.ensures.0, c.before.before.before.before.loop.invariant.0, s.requires.1.1.1)), (rw from-length (omega (arith, c.before.before.before.loop-test.true, s.requires.1.0)), d.ensures.1.stand)))
-    (λ c κs. (omega (arith, c.before.before.before.before.before.before.before.loop-test.true), omega (arith, c.before.before.before.before.before.before.before.before.before.before.before.before.before.before.before.before.before.requires.1.1.2, c.before.before.before.before.before.before.before.before.loop.invariant.1.room)))
-    (λ c. omega (arith, c.before.before.before.before.before.before.before.before.before.before.loop-test.true, c.before.before.before.before.before.before.before.before.before.before.before.before.before.before.before.before.before.before.before.before.requires.0.1))
-    (λ c. omega (arith, c.before.before.before.before.before.before.before.before.before.before.loop-test.true))
-    (λ c. let s = c.before.before.before.before.before.before.before.before.before.before.before.before.before.before.before.before.before.before.before.before in
-    let l = c.before.before.before.before.before.before.before.before.before.before.before.loop in
-    let f = c.before.before.before.before.before.before.inner in
-    (f.ensures.1 ∙ l.invariant.0, upto-more (answer s.args.t.now (steps_at s.args.step.now s.args.w.now 0 (s.args.k + 3))) s.args.m s.args.out.now l.o l.out _ (lane f.result) l.invariant.1 c.before.before.before.before.before.before.before.before.before.before.loop-test.true c.before.before.give.ensures (inks-given s.args.step.now s.args.w.now s.requires.0.2 s.args.k s.args.t.now l.o s.args.m f.result f.ensures.0)))
-    (λ c. c.before.before.before.before.distances.ensures.1.room)
-    (λ c. c.before.loop.invariant.0)
-    (λ c. c.before.loop.invariant.1.room)
-    (λ c. let s = c.before.before.before.before.before.before.before.before.before.before in
-    let l = c.before.loop in
-    upto_all (answer s.args.t.now (steps_at s.args.step.now s.args.w.now 0 (s.args.k + 3))) s.args.m s.args.out.now l.o l.out l.invariant.1 c.loop-test.false))
+    (λ c. omega (arith, c.loop-o-test.true, c.requires.1.0))
+    (λ c. omega (arith, c.loop-o-test.true, c.requires.1.0))
+    (λ c. omega (arith, c.loop-o-test.true, c.requires.1.0))
+    (λ c. omega (arith, c.loop-o-test.true, c.requires.1.0))
+    (λ c. omega (arith, c.loop-o-test.true))
+    (λ c κs. let s = c in
+    let d = c.distances-count in
+    ((omega (arith, s.requires.0.0), d.ensures.0, omega (arith, d.ensures.0, d.ensures.1.room, s.requires.1.1.0), omega (arith, d.ensures.0, c.loop-o.invariant.0, s.requires.1.1.1)), (rw from-length (omega (arith, c.loop-o-test.true, s.requires.1.0)), d.ensures.1.stand)))
+    (λ c κs. (omega (arith, c.loop-o-test.true), omega (arith, c.requires.1.1.2, c.loop-o.invariant.1.room)))
+    (λ c. omega (arith, c.loop-o-test.true, c.requires.0.1))
+    (λ c. omega (arith, c.loop-o-test.true))
+    (λ c. let s = c in
+    let l = c.loop-o in
+    let f = c.inner in
+    (f.ensures.1 ∙ l.invariant.0, upto-more (answer s.args.t.now (steps_at s.args.step.now s.args.w.now 0 (s.args.k + 3))) s.args.m s.args.out.now l.o l.out _ (lane f.result) l.invariant.1 c.loop-o-test.true c.give.ensures (inks-given s.args.step.now s.args.w.now s.requires.0.2 s.args.k s.args.t.now l.o s.args.m f.result f.ensures.0)))
+    (λ c. c.distances-count.ensures.1.room)
+    (λ c. c.loop-o.invariant.0)
+    (λ c. c.loop-o.invariant.1.room)
+    (λ c. let s = c in
+    let l = c.loop-o in
+    upto_all (answer s.args.t.now (steps_at s.args.step.now s.args.w.now 0 (s.args.k + 3))) s.args.m s.args.out.now l.o l.out l.invariant.1 c.loop-o-test.false))

@@ -5,8 +5,8 @@ use Rattle.walk.proofs.Tetrahedron.{plan-is}
 use Rattle.walk.proofs.tetra.plan_of.Statement.{statement}
 use Rattle.walk.proofs.tetra.plan_of.Tie as tie
 
-pub plan-of-spec : {M : Type 1} → statement M
-plan-of-spec =
+pub plan_of_spec : {M : Type 1} → statement M
+plan_of_spec =
     tie.close
     (tie.spec
     (λ c κs. tt)
@@ -26,7 +26,7 @@ plan-of-spec =
     (λ c. omega arith)
     (λ c. omega arith)
     (λ c. omega arith)
-    (λ c. let a = c.before.before.before.before.before.before.args in
-    plan-is a.dx a.dy a.dz a.rx a.ry a.rz _ _ _ _ _ _ c.before.before.before.before.before.pick.ensures.0
-    c.before.before.before.before.pick2.ensures.0 c.before.before.before.pick3.ensures.0 c.before.before.pick4.ensures.0
-    c.before.pick5.ensures.0 c.pick6.ensures.0))
+    (λ c. let a = c.args in
+    plan-is a.dx a.dy a.dz a.rx a.ry a.rz _ _ _ _ _ _ c.pick-y1.ensures.0
+    c.pick-z1.ensures.0 c.pick-x2.ensures.0 c.pick-z2.ensures.0
+    c.pick-x3.ensures.0 c.pick-y3.ensures.0))
