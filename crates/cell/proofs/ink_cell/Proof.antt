@@ -9,12 +9,11 @@ use Rattle.cell.proofs.ink_cell.Statement.{statement}
 use Rattle.cell.proofs.ink_cell.Tie as tie
 
 returns : tie.Need-returns-in_default
-returns c = let at = c in simp (clipped-nan at.args.x at.clip-clipped.result at.clip-clipped.ensures c.in_default.is)
+returns c = simp (clipped-nan c.args.x c.clip-clipped.result c.clip-clipped.ensures c.in_default.is)
 
 product-requires : tie.Need-product-p-requires
 product-requires c κs =
-    let at = c in
-    subst (UpTo 1) (sym (clipped-ink at.args.x at.clip-clipped.result at.clip-clipped.ensures _ c.in-Ink.is).1) (ink-up_to at.args.x)
+    subst (UpTo 1) (sym (clipped-ink c.args.x c.clip-clipped.result c.clip-clipped.ensures _ c.in-Ink.is).1) (ink-up_to c.args.x)
 
 -- the rule decides the upper node alone
 either : (b : Bool) (p : Float) (u v : ℕ) → cell_at p (cond b u v) ≡ cond b (cell_at p u) (cell_at p v)
@@ -24,9 +23,7 @@ either false p u v = refl
 returns-2 : tie.Need-returns
 unfolding ink_cell cell_low cell_high product_of
 returns-2 c =
-    let read = c in
-    let at = read in
-    let said = clipped-ink at.args.x at.clip-clipped.result at.clip-clipped.ensures _ read.in-Ink.is in
+    let said = clipped-ink c.args.x c.clip-clipped.result c.clip-clipped.ensures _ c.in-Ink.is in
     simp (said.0, c.cell_at.ensures, c.upper_node.ensures, c.product-p.ensures.0, said.1, either)
 
 pub ink_cell_spec : {M : Type 1} → statement M

@@ -35,7 +35,7 @@ placed_spec =
     (λ c κs. tt)
     (λ c. search rules)
     (λ c. search rules)
-    (λ c. let at = c in simp (found-nan at.args.x _ at.ink_cell-of.result at.ink_cell-of.ensures c.in_default.is))
+    (λ c. simp (found-nan c.args.x _ c.ink_cell-of.result c.ink_cell-of.ensures c.in_default.is))
     (λ c. distance-fits (it c).x _ (below c).0 (search rules))
     (λ c. distance-fits (it c.before).x_n _ (below c.before).1 (search rules))
     (λ c. simp ((said c.before).0, (said c.before).1)))

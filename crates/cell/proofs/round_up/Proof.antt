@@ -8,10 +8,10 @@ use Rattle.cell.proofs.round_up.Statement.{statement}
 use Rattle.cell.proofs.round_up.Tie as tie
 
 int-to-float-if1 : tie.Need-int_to_float-lower
-int-to-float-if1 c = let at = c in castable at.args.p at.args.lower at.requires.0 at.requires.1
+int-to-float-if1 c = castable c.args.p c.args.lower c.requires.0 c.requires.1
 
 add-result : tie.Need-overflow_add-result
-add-result c = let at = c in omega (arith, whole-lt 64 255 at.args.p (lit≤ tt) at.requires.0, at.requires.1)
+add-result c = omega (arith, whole-lt 64 255 c.args.p (lit≤ tt) c.requires.0, c.requires.1)
 
 returns : tie.Need-returns-then-lower-p
 unfolding up_of

@@ -32,7 +32,7 @@ is_whole : (c : tie.After-wrapping_sub_u32-behind) → digits (to_bits binary32 
 is_whole c = let b = to_bits binary32 c.args.p in ap (λ (k : ℕ). digits b / 2 ^ k) (is-behind c) ∙ whole-digits c.args.p c.requires
 
 returns : tie.Need-returns-then-behind-gt23
-returns c = let at = c in sym (none_left (to_bits binary32 at.args.p) at.wrapping_sub_u32-behind.result (omega (arith, c.if-behind-gt23.true))) ∙ is_whole c.before
+returns c = sym (none_left (to_bits binary32 c.args.p) c.wrapping_sub_u32-behind.result (omega (arith, c.if-behind-gt23.true))) ∙ is_whole c.before
 
 add-result : tie.Need-overflow_add-result
 add-result c = search rules

@@ -43,12 +43,10 @@ write-answers-requires c κs = let a = allowed c.before.before in (a.wide, reach
 
 returns-2 : tie.Need-returns
 returns-2 c =
-    let done = c in
-    let passed = c in
-    let at = passed.args in
+    let at = c.args in
     record {
-      number = sym passed.if-number-ne0.false ∙ passed.checked-number.ensures;
-      entries = done.write_answers.ensures ∙ answers at.method at.cx at.cy at.cz at.g at.m at.cube.now at.answer.now _ done.starts-p.ensures;
+      number = sym c.if-number-ne0.false ∙ c.checked-number.ensures;
+      entries = c.write_answers.ensures ∙ answers at.method at.cx at.cy at.cz at.g at.m at.cube.now at.answer.now _ c.starts-p.ensures;
     }
 
 pub interpolate_spec : {M : Type 1} → statement M

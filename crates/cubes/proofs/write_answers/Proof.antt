@@ -27,9 +27,8 @@ loop-holds c = (omega arith, refl, refl)
 
 -- what was blended is the answer of the definition
 blended : (c : tie.After-blend invariant-loop decreases-loop) →
-    let at = c in
-    let args = at.args in
-    c.blend.result ≡ blend_of args.method (entries_at (start_at args.p) args.cube.now at.loop-output.output) args.dr args.dg args.db
+    let args = c.args in
+    c.blend.result ≡ blend_of args.method (entries_at (start_at args.p) args.cube.now c.loop-output.output) args.dr args.dg args.db
 blended c =
     let args = c.args in
     c.blend.ensures ∙ ap (λ (e : Corners). blend_of args.method (corner_at e) args.dr args.dg args.db) c.fetch-c.ensures ∙ kept args.method _ _ _ _
@@ -51,7 +50,7 @@ write_answers_spec =
     invariant-loop
     decreases-loop
     loop-holds
-    (λ c κs. let s = c in (search rules, s.requires.1))
+    (λ c κs. (search rules, c.requires.1))
     (λ c κs. search rules)
     (λ c. omega arith)
     (λ c. omega arith)

@@ -71,6 +71,5 @@ write_by_sizes_spec =
     (λ c κs. omega (arith, few c.before.before))
     (λ c κs. within c.before.before.before.before)
     (λ c. search rules)
-    (λ c. let e = c in
-    filed-by (sizes c.before.before.before.before.before.before.before) (n c.before.before.before.before.before.before.before) (m c.before.before.before.before.before.before.before) (none c.before.before.before.before.before.before.before) (is c.before.before.before.before.before.before.before) _ (total c.before.before.before.before.before.before.before) _ (c.used_sizes.ensures ∙ used-are (sizes c.before.before.before.before.before.before.before) (n c.before.before.before.before.before.before.before) (m c.before.before.before.before.before.before.before) (none c.before.before.before.before.before.before.before) (is c.before.before.before.before.before.before.before)) _ _ _ _
+    (λ c. filed-by (sizes c.before.before.before.before.before.before.before) (n c.before.before.before.before.before.before.before) (m c.before.before.before.before.before.before.before) (none c.before.before.before.before.before.before.before) (is c.before.before.before.before.before.before.before) _ (total c.before.before.before.before.before.before.before) _ (c.used_sizes.ensures ∙ used-are (sizes c.before.before.before.before.before.before.before) (n c.before.before.before.before.before.before.before) (m c.before.before.before.before.before.before.before) (none c.before.before.before.before.before.before.before) (is c.before.before.before.before.before.before.before)) _ _ _ _
     c.write_file.ensures))

@@ -74,9 +74,7 @@ cut_slab_spec =
     (λ c. some c)
     (λ c κs. fit c.before)
     (λ c. search rules)
-    (λ c. let counted = c in
-    let a = (start c.before.before.before.before).args in
+    (λ c. let a = (start c.before.before.before.before).args in
     let run = run_is _ _ _ _ _ (p c.before.before.before.before) in
-    let else1 = c in
-    cut-done a.lut a.table.now a.j a.k a.slab.now _ else1.refused-refusal.ensures else1.if-refusal-ne0.false _
+    cut-done a.lut a.table.now a.j a.k a.slab.now _ c.refused-refusal.ensures c.if-refusal-ne0.false _
     (c.cut.ensures ∙ (λ i. written (cut_entry a.table.now (run i) (lines c.before.before.before.before) a.k) (turns c.before.before.before.before i * run i) a.slab.now) ∙ runs-slab a.lut a.table.now a.j a.k a.slab.now (p c.before.before.before.before))))

@@ -63,8 +63,7 @@ module _ (c : tie.In-loop-i invariant-loop decreases-loop) where
 
 again : tie.Need-loop-i-preserved invariant-loop decreases-loop
 again c =
-    let turn = c in
-    let inv = turn.loop-i.invariant in
+    let inv = c.loop-i.invariant in
     let some : 0 < i c.before.before.before = omega arith in (
       search rules,
       next-is c.before.before.before,

@@ -35,11 +35,8 @@ counted c = (count-to _ (n-counts c.before.before), count-to _ (m-counts c))
 
 answer : tie.Need-returns
 answer c =
-    let used = c in
-    let else2 = c in
-    let start = c in
-    let lut = start.args.lut in
-    let tested = used.used.ensures.holds c.if-not-used.false in
+    let lut = c.args.lut in
+    let tested = c.used.ensures.holds c.if-not-used.false in
     record {
       holds = λ e. layout_of lut (facts-are lut (arrays c.before.before.before.before.before.before.before.before.before.before.before) (n-counts c.before.before.before.before.before.before.before.before.before) (m-counts c.before.before.before.before.before.before.before) tested.1 tested.0 (c.unused.ensures.holds e));
       found = λ is. c.unused.ensures.found (unused-at lut (facts-of lut is));
@@ -53,7 +50,7 @@ is_layout_spec =
     (λ c. refuses (λ is. not-both _ (ap not c.if-not-is_count.true) (c.is_count.ensures ∙ (facts-of _ is).accepted.n-counts)))
     (λ c κs. search rules)
     (λ c. refuses (λ is. not-both _ (ap not c.if-not-is_count-2.true) (c.is_count-2.ensures ∙ (facts-of _ is).accepted.m-counts)))
-    (λ c κs. let else2 = c in (omega (arith, (counted c.before.before.before.before).0), (counted c.before.before.before.before).1))
+    (λ c κs. (omega (arith, (counted c.before.before.before.before).0), (counted c.before.before.before.before).1))
     (λ c. refuses (λ is. let facts = facts-of _ is in not-both _ (ap not c.if-not-used.true) (c.used.ensures.found (used-at _ facts, facts.accepted.within))))
     (λ c κs. omega (arith, (counted c.before.before.before.before.before.before).0))
     answer)

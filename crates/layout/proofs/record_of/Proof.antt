@@ -13,8 +13,6 @@ record_of_spec =
     (λ c κs. row-fills _ _ _ c.requires 1 (outputs-from _ _ _ c.requires))
     (λ c. omega (arith, counts-few _ _ _ c.requires))
     (λ c κs. row-fills _ _ _ c.requires _ (le_refl _))
-    (λ c κs. let start = c in row-fills _ _ _ start.requires 1 (outputs-from _ _ _ start.requires))
+    (λ c κs. row-fills _ _ _ c.requires 1 (outputs-from _ _ _ c.requires))
     (λ c.
-    let filled2 = c in
-    let filled1 = filled2 in
-    record_is _ _ _ filled1.requires _ _ _ _ filled1.fill.ensures filled2.fill-2.ensures c.fill_own.ensures.0 c.fill_own.ensures.1))
+    record_is _ _ _ c.requires _ _ _ _ c.fill.ensures c.fill-2.ensures c.fill_own.ensures.0 c.fill_own.ensures.1))

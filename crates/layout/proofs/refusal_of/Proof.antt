@@ -82,15 +82,13 @@ refused-1 c =
 refused-2 : tie.Need-returns-then-not-is_count-2
 unfolding laid_of laid_using refused_by
 refused-2 c =
-    let at = c in
-    let fails : is_count at.args.m ≡ false = sym c.is_count-2.ensures ∙ c.if-not-is_count-2.true in
-    record { known = at.sixteen.ensures; number = sym (simp (n-counts c.before.before, fails)) }
+    let fails : is_count c.args.m ≡ false = sym c.is_count-2.ensures ∙ c.if-not-is_count-2.true in
+    record { known = c.sixteen.ensures; number = sym (simp (n-counts c.before.before, fails)) }
 
 refused-3 : tie.Need-returns-then-total-eq0
 unfolding laid_of laid_using refused_by
 refused-3 c =
-    let at = c in
-    record { known = at.sixteen.ensures; number = sym (simp (n-counts c.before.before.before.before, m-counts c.before.before, none c.before c.if-total-eq0.true)) }
+    record { known = c.sixteen.ensures; number = sym (simp (n-counts c.before.before.before.before, m-counts c.before.before, none c.before c.if-total-eq0.true)) }
 
 -- with every test before it passed, the number is the last test's
 by_last : (c : tie.Else-total-eq0) (r : ℕ) → cond (ltb limit (all c.before)) 5 0 ≡ r →
@@ -98,9 +96,8 @@ by_last : (c : tie.Else-total-eq0) (r : ℕ) → cond (ltb limit (all c.before))
     Tested args.sizes.now args.n args.m r
 unfolding laid_of laid_using
 by_last c r e =
-    let at = c in
     record {
-      known = at.sixteen.ensures;
+      known = c.sixteen.ensures;
       number =
           sym
           (simp (n-counts c.before.before.before.before, m-counts c.before.before, some c.before c.if-total-eq0.false)

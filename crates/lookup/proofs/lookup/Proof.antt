@@ -95,9 +95,7 @@ lookup_spec =
     (λ c κs. tt)
     (λ c. refused c.before c.if-refusal-ne0.true)
     (λ c. short c.before.before c.if-refusal-ne0.false c.if-answer-m.true)
-    (λ c κs. let fits = c in
-    let ok = ready c.before.before.before.before.before.before.before fits.if-refusal-ne0.false in
-    (ok.0, (ok.1, fits.if-answer-m.false)))
+    (λ c κs. let ok = ready c.before.before.before.before.before.before.before c.if-refusal-ne0.false in
+    (ok.0, (ok.1, c.if-answer-m.false)))
     (λ c. ap length c.write.ensures.entries ∙ length-left c.write.result _ _ _)
-    (λ c. let fits = c in
-    settled c.before.before.before.before.before.before.before.before.before.before fits.if-refusal-ne0.false fits.if-answer-m.false _ _ c.write.ensures))
+    (λ c. settled c.before.before.before.before.before.before.before.before.before.before c.if-refusal-ne0.false c.if-answer-m.false _ _ c.write.ensures))

@@ -18,8 +18,6 @@ lookup_by_sizes_spec =
     record { number = number; entries = unwritten _ _ _ _ c.if-laid-ne0.true number })
     (λ c κs. tt)
     (λ c. ap length c.lookup.ensures.entries ∙ length-left c.lookup.result _ _ _)
-    (λ c. let accepted = c in
-    let out = accepted in
-    let a = out.args in
-    looked-laid never a.sizes.now a.n a.m out.layout-laid.result out.layout-laid.ensures accepted.if-laid-ne0.false
+    (λ c. let a = c.args in
+    looked-laid never a.sizes.now a.n a.m c.layout-laid.result c.layout-laid.ensures c.if-laid-ne0.false
     a.table.now a.inputs.now a.answer.now _ _ c.lookup.ensures))

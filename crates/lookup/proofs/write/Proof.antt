@@ -24,24 +24,20 @@ pub write_spec : {M : Type 1} → statement M
 write_spec =
     tie.close
     (tie.spec
-    (λ c κs. let s = c in (omega (arith, s.requires.0.inks-to), (refl, refl, refl)))
+    (λ c κs. (omega (arith, c.requires.0.inks-to), (refl, refl, refl)))
     (λ c. record { number = c.place-refused.ensures.0; entries = unwritten _ _ _ _ c.if-refused-ne0.true refl })
-    (λ c κs. let tested = c in
-    let p = c in
-    let s = start c.before.before.before.before.before in
+    (λ c κs. let s = start c.before.before.before.before.before in
     let a = s.args in
     let reach =
     inks-reach a.filling.now a.sizes.now a.inputs.now a.m s.requires.0 a.table.now s.requires.1.0 _ refl (cells c.before.before.before.before.before)
-    (p.place-refused.ensures.1 tested.if-refused-ne0.false) in
+    (c.place-refused.ensures.1 c.if-refused-ne0.false) in
     (omega (arith, s.requires.0.inks-to), (reach, s.requires.1.1)))
     (λ c. same-room _ _ _ _ c.each.ensures)
-    (λ c. let tested = c in
-    let p = c in
-    let s = start c.before.before.before.before.before.before.before.before in
+    (λ c. let s = start c.before.before.before.before.before.before.before.before in
     let a = s.args in
     record {
-      number = sym tested.if-refused-ne0.false ∙ p.place-refused.ensures.0;
+      number = sym c.if-refused-ne0.false ∙ c.place-refused.ensures.0;
       entries =
           inks-done a.filling.now a.sizes.now a.inputs.now a.m s.requires.0 a.table.now s.requires.1.0 _ refl never (cells c.before.before.before.before.before.before.before.before)
-          (p.place-refused.ensures.1 tested.if-refused-ne0.false) a.answer.now _ c.each.ensures;
+          (c.place-refused.ensures.1 c.if-refused-ne0.false) a.answer.now _ c.each.ensures;
     }))

@@ -12,13 +12,12 @@ node_spec =
     (tie.spec
     (λ c κs. tt)
     (λ c. refl)
-    (λ c. let s = c in shown-nothing s.args.lut s.args.table.now s.args.coordinates.now _ c.node_refusal.ensures c.if-node_refusal-ne0.true)
-    (λ c κs. let s = c in
-    let ok = node-passed s.args.lut s.args.table.now s.args.coordinates.now _ c.node_refusal.ensures c.if-node_refusal-ne0.false in
-    (node-layout s.args.lut s.args.table.now s.args.coordinates.now _ c.node_refusal.ensures c.if-node_refusal-ne0.false, (ok.as_many, node-inside s.args.lut s.args.table.now s.args.coordinates.now _ c.node_refusal.ensures c.if-node_refusal-ne0.false)))
-    (λ c. let s = c in omega (arith, c.first_entry-first.ensures, node-stands s.args.lut s.args.table.now s.args.coordinates.now _ c.node_refusal.ensures c.if-node_refusal-ne0.false))
-    (λ c. let s = c in omega (arith, c.first_entry-first.ensures, node-stands s.args.lut s.args.table.now s.args.coordinates.now _ c.node_refusal.ensures c.if-node_refusal-ne0.false))
-    (λ c. let s = c in omega (arith, c.first_entry-first.ensures, node-stands s.args.lut s.args.table.now s.args.coordinates.now _ c.node_refusal.ensures c.if-node_refusal-ne0.false))
-    (λ c. let s = c in omega (arith, c.first_entry-first.ensures, node-stands s.args.lut s.args.table.now s.args.coordinates.now _ c.node_refusal.ensures c.if-node_refusal-ne0.false))
-    (λ c. let s = c in omega (arith, c.first_entry-first.ensures, node-stands s.args.lut s.args.table.now s.args.coordinates.now _ c.node_refusal.ensures c.if-node_refusal-ne0.false))
-    (λ c. let s = c in shown-node s.args.lut s.args.table.now s.args.coordinates.now _ c.node_refusal.ensures c.if-node_refusal-ne0.false _ c.first_entry-first.ensures))
+    (λ c. shown-nothing c.args.lut c.args.table.now c.args.coordinates.now _ c.node_refusal.ensures c.if-node_refusal-ne0.true)
+    (λ c κs. let ok = node-passed c.args.lut c.args.table.now c.args.coordinates.now _ c.node_refusal.ensures c.if-node_refusal-ne0.false in
+    (node-layout c.args.lut c.args.table.now c.args.coordinates.now _ c.node_refusal.ensures c.if-node_refusal-ne0.false, (ok.as_many, node-inside c.args.lut c.args.table.now c.args.coordinates.now _ c.node_refusal.ensures c.if-node_refusal-ne0.false)))
+    (λ c. omega (arith, c.first_entry-first.ensures, node-stands c.args.lut c.args.table.now c.args.coordinates.now _ c.node_refusal.ensures c.if-node_refusal-ne0.false))
+    (λ c. omega (arith, c.first_entry-first.ensures, node-stands c.args.lut c.args.table.now c.args.coordinates.now _ c.node_refusal.ensures c.if-node_refusal-ne0.false))
+    (λ c. omega (arith, c.first_entry-first.ensures, node-stands c.args.lut c.args.table.now c.args.coordinates.now _ c.node_refusal.ensures c.if-node_refusal-ne0.false))
+    (λ c. omega (arith, c.first_entry-first.ensures, node-stands c.args.lut c.args.table.now c.args.coordinates.now _ c.node_refusal.ensures c.if-node_refusal-ne0.false))
+    (λ c. omega (arith, c.first_entry-first.ensures, node-stands c.args.lut c.args.table.now c.args.coordinates.now _ c.node_refusal.ensures c.if-node_refusal-ne0.false))
+    (λ c. shown-node c.args.lut c.args.table.now c.args.coordinates.now _ c.node_refusal.ensures c.if-node_refusal-ne0.false _ c.first_entry-first.ensures))

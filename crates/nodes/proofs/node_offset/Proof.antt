@@ -12,8 +12,7 @@ node_offset_spec =
     (λ c κs. tt)
     (λ c. let read = c.node_refusal.ensures in
     record { laid = read.laid; decides = read.decides; offset = kept _ _ 0 c.if-node_refusal-ne0.true read.number })
-    (λ c κs. let s = c in
-    let as_many = (node-passed s.args.lut s.args.table.now s.args.coordinates.now _ c.node_refusal.ensures c.if-node_refusal-ne0.false).as_many in
-    (node-layout s.args.lut s.args.table.now s.args.coordinates.now _ c.node_refusal.ensures c.if-node_refusal-ne0.false, (as_many, node-inside s.args.lut s.args.table.now s.args.coordinates.now _ c.node_refusal.ensures c.if-node_refusal-ne0.false)))
+    (λ c κs. let as_many = (node-passed c.args.lut c.args.table.now c.args.coordinates.now _ c.node_refusal.ensures c.if-node_refusal-ne0.false).as_many in
+    (node-layout c.args.lut c.args.table.now c.args.coordinates.now _ c.node_refusal.ensures c.if-node_refusal-ne0.false, (as_many, node-inside c.args.lut c.args.table.now c.args.coordinates.now _ c.node_refusal.ensures c.if-node_refusal-ne0.false)))
     (λ c. let read = c.node_refusal.ensures in
     record { laid = read.laid; decides = read.decides; offset = c.first_entry.ensures ∙ given _ _ 0 (sym c.if-node_refusal-ne0.false ∙ read.number) }))

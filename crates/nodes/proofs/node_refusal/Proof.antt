@@ -11,12 +11,9 @@ node_refusal_spec =
     tie.close
     (tie.spec
     (λ c κs. tt)
-    (λ c. let s = c in
-    node-refused s.args.lut s.args.table.now s.args.coordinates.now _ c.refused-refusal.ensures c.if-refusal-ne0.true)
-    (λ c κs. let s = c in node-counted s.args.lut s.args.table.now s.args.coordinates.now _ c.refused-refusal.ensures c.if-refusal-ne0.false)
-    (λ c. let s = c in
-    subst (λ (out : Bool). NodeRefused s.args.lut s.args.table.now s.args.coordinates.now (cond (not out) 10 0)) c.if-not-below.true
-    (node-tested s.args.lut s.args.table.now s.args.coordinates.now _ c.refused-refusal.ensures c.if-refusal-ne0.false c.below.result c.below.ensures))
-    (λ c. let s = c in
-    subst (λ (out : Bool). NodeRefused s.args.lut s.args.table.now s.args.coordinates.now (cond (not out) 10 0)) c.if-not-below.false
-    (node-tested s.args.lut s.args.table.now s.args.coordinates.now _ c.refused-refusal.ensures c.if-refusal-ne0.false c.below.result c.below.ensures)))
+    (λ c. node-refused c.args.lut c.args.table.now c.args.coordinates.now _ c.refused-refusal.ensures c.if-refusal-ne0.true)
+    (λ c κs. node-counted c.args.lut c.args.table.now c.args.coordinates.now _ c.refused-refusal.ensures c.if-refusal-ne0.false)
+    (λ c. subst (λ (out : Bool). NodeRefused c.args.lut c.args.table.now c.args.coordinates.now (cond (not out) 10 0)) c.if-not-below.true
+    (node-tested c.args.lut c.args.table.now c.args.coordinates.now _ c.refused-refusal.ensures c.if-refusal-ne0.false c.below.result c.below.ensures))
+    (λ c. subst (λ (out : Bool). NodeRefused c.args.lut c.args.table.now c.args.coordinates.now (cond (not out) 10 0)) c.if-not-below.false
+    (node-tested c.args.lut c.args.table.now c.args.coordinates.now _ c.refused-refusal.ensures c.if-refusal-ne0.false c.below.result c.below.ensures)))

@@ -10,6 +10,6 @@ pub first_spec : {M : Type 1} → statement M
 first_spec =
     tie.close
     (tie.spec
-    (λ c. let start = c in sym (length-take-le start.args.count start.args.bytes.now (omega arith)))
+    (λ c. sym (length-take-le c.args.count c.args.bytes.now (omega arith)))
     (λ c. search rules)
-    (λ c. let start = c in sym (take_all start.args.count start.args.bytes.now c.if-count-bytes.false)))
+    (λ c. sym (take_all c.args.count c.args.bytes.now c.if-count-bytes.false)))

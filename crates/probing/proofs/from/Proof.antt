@@ -13,6 +13,6 @@ from_spec =
     (λ c. search rules)
     (λ c. search rules)
     (λ c. search rules)
-    (λ c. let start = c in rest-drop start.args.place start.args.bytes.now)
+    (λ c. rest-drop c.args.place c.args.bytes.now)
     (λ c. search rules)
-    (λ c. let start = c in sym (drop_of_length-le start.args.bytes.now c.if-place-bytes.false)))
+    (λ c. sym (drop_of_length-le c.args.bytes.now c.if-place-bytes.false)))

@@ -72,12 +72,10 @@ probed_spec =
     (λ c κs. search rules)
     (λ c κs. search rules)
     (λ c. search rules)
-    (λ c κs. let laid = c in
-    (omega (arith, inks c.before.before.before.before.before, ap length c.first.ensures, length-take c.byte_at-n.result c.from-rest.result.now), table_fits c.args.input.now c.byte_at-n.result c.from.ensures c.from-rest.ensures c.first-bytes.ensures))
+    (λ c κs. (omega (arith, inks c.before.before.before.before.before, ap length c.first.ensures, length-take c.byte_at-n.result c.from-rest.result.now), table_fits c.args.input.now c.byte_at-n.result c.from.ensures c.from-rest.ensures c.first-bytes.ensures))
     (λ c κs. search rules)
     (λ c. probed-of (refuses c.before.before.before.before c.if-number-ne0.true) c.refused-then-number-ne0.ensures (omega (arith, refusal-fits c.looked-number.result (omega arith))))
     (λ c. omega (arith, room c.before.before, outputs c.before.before.before.before.before.before.before.before))
     (λ c. sym (count c.before.before.before))
     (λ c κs. omega (arith, count c.before.before.before.before, outputs c.before.before.before.before.before.before.before.before.before.before))
-    (λ c. let looked = c in
-    probed-of (answers c.before.before.before.before.before c.if-number-ne0.false) c.accepted.ensures (omega (arith, answers-fit (take c.byte_at-m.result looked.looked-number.new.answers) (omega (arith, count c.before.before.before.before.before, outputs c.before.before.before.before.before.before.before.before.before.before.before)) (omega (arith, count c.before.before.before.before.before, outputs c.before.before.before.before.before.before.before.before.before.before.before))))))
+    (λ c. probed-of (answers c.before.before.before.before.before c.if-number-ne0.false) c.accepted.ensures (omega (arith, answers-fit (take c.byte_at-m.result c.looked-number.new.answers) (omega (arith, count c.before.before.before.before.before, outputs c.before.before.before.before.before.before.before.before.before.before.before)) (omega (arith, count c.before.before.before.before.before, outputs c.before.before.before.before.before.before.before.before.before.before.before))))))

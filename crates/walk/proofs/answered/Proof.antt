@@ -81,27 +81,24 @@ answered_spec =
     tie.close
     (tie.spec
     (λ c. lit< tt)
-    (λ c. let s = c in Fits-under _ _ _ (s.requires.narrow 0 s.requires.inks-from).0 tt)
+    (λ c. Fits-under _ _ _ (c.requires.narrow 0 c.requires.inks-from).0 tt)
     (λ c. lit< tt)
-    (λ c. let s = c in Fits-under _ _ _ (s.requires.narrow 0 s.requires.inks-from).1 tt)
-    (λ c. let s = c in total-fits _ _ (s.requires.narrow 0 s.requires.inks-from).0 (s.requires.narrow 0 s.requires.inks-from).1)
+    (λ c. Fits-under _ _ _ (c.requires.narrow 0 c.requires.inks-from).1 tt)
+    (λ c. total-fits _ _ (c.requires.narrow 0 c.requires.inks-from).0 (c.requires.narrow 0 c.requires.inks-from).1)
     (λ c κs. tt)
     (λ c κs. tt)
-    (λ c. let here = c in
-    let s = start c.before.before in
+    (λ c. let s = start c.before.before in
     refused c.before.before _ c.tally.result c.tally.ensures.0 c.if-refusal-ne0.true c.tally.ensures.1
     (answered-refused (skip c.before.before) (gs c.before.before) s.args.n s.args.m s.args.table.now s.args.inputs.now s.args.answer.now _ (number c.before.before) c.if-refusal-ne0.true))
     (λ c κs. tt)
-    (λ c. let here = c in
-    let s = start c.before.before.before in
+    (λ c. let s = start c.before.before.before in
     refused c.before.before.before 8 c.tally-then-answer-m.result c.tally-then-answer-m.ensures.0 (λ z. omega arith) c.tally-then-answer-m.ensures.1
     (answered-short (skip c.before.before.before) (gs c.before.before.before) s.args.n s.args.m s.args.table.now s.args.inputs.now s.args.answer.now _ (number c.before.before.before) c.if-refusal-ne0.false c.if-answer-m.true))
     (λ c κs. let none = c.if-refusal-ne0.false in
     (laid c.before.before.before none, (enough c.before.before.before none, c.if-answer-m.false)))
     (λ c. ap length c.write.ensures.0.entries ∙ length-left c.write.result.refusal _ _ _)
-    (λ c. let here = c in
-    let s = start c.before.before.before.before.before.before in
+    (λ c. let s = start c.before.before.before.before.before.before in
     let none = c.if-refusal-ne0.false in (
-      answered-blended (skip c.before.before.before.before.before.before) (gs c.before.before.before.before.before.before) s.args.n s.args.m s.args.table.now s.args.inputs.now s.args.answer.now _ (number c.before.before.before.before.before.before) none c.if-answer-m.false _ _ (blended here none _ _ c.write.ensures.0),
-      counted here none c.write.result c.write.ensures.1,
+      answered-blended (skip c.before.before.before.before.before.before) (gs c.before.before.before.before.before.before) s.args.n s.args.m s.args.table.now s.args.inputs.now s.args.answer.now _ (number c.before.before.before.before.before.before) none c.if-answer-m.false _ _ (blended c.before.before.before.before.before.before none _ _ c.write.ensures.0),
+      counted c.before.before.before.before.before.before none c.write.result c.write.ensures.1,
     )))

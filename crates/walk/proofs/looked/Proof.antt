@@ -2,7 +2,7 @@
 use Prim.Native.Nat.{ℕ}
 use native.Mathlib.Omega.{arith}
 use mathlib.Core.Path.{sym, ap, subst, ◌∙◌}
-use mathlib.Core.Bool.{Bool}
+use mathlib.Core.Bool.{Bool, not}
 use lib.Ieee.{Float}
 use lib.ListN.{length}
 use borrow.Author.Tests.{not-false}
@@ -19,10 +19,9 @@ use Rattle.walk.proofs.looked.Tie as tie
 -- no layout's record
 returns : tie.Need-returns-then-not-is_layout
 returns c =
-    let s = c in
-    let skip : Float → Bool = skip_of s.args.skipping in (
-      subst (λ (r : ℕ). LookedWith skip s.args.lut s.args.table.now s.args.inputs.now s.args.answer.now r s.args.answer.now) (sym c.tally.ensures.0)
-          (looked-refused skip s.args.lut s.args.table.now s.args.inputs.now s.args.answer.now _ c.is_layout.ensures c.if-not-is_layout.true),
+    let skip : Float → Bool = skip_of c.args.skipping in (
+      subst (λ (r : ℕ). LookedWith skip c.args.lut c.args.table.now c.args.inputs.now c.args.answer.now r c.args.answer.now) (sym c.tally.ensures.0)
+          (looked-refused skip c.args.lut c.args.table.now c.args.inputs.now c.args.answer.now _ c.is_layout.ensures (ap not c.if-not-is_layout.true)),
       refused-counts _ c.tally.result 9 c.tally.ensures.0 (λ z. omega arith) c.tally.ensures.1,
     )
 
@@ -30,8 +29,8 @@ returns c =
 returns-2 : tie.Need-returns
 unfolding reads_at
 returns-2 c =
-    let s = c in (
-      looked-answered (skip_of s.args.skipping) s.args.lut s.args.table.now s.args.inputs.now s.args.answer.now _ c.is_layout.ensures c.if-not-is_layout.false _ _ c.answered.ensures.0,
+    (
+      looked-answered (skip_of c.args.skipping) c.args.lut c.args.table.now c.args.inputs.now c.args.answer.now _ c.is_layout.ensures c.if-not-is_layout.false _ _ c.answered.ensures.0,
       c.answered.ensures.1,
     )
 

@@ -21,11 +21,10 @@ returns c =
 -- an accepted one
 returns-2 : tie.Need-returns
 returns-2 c =
-    let s = c in
     let filled = c.filling_sizes-refusal.ensures in
     let none = sym filled.number ∙ c.if-refusal-ne0.false in (
-      looked-by-sizes s.args.sizes.now s.args.n s.args.m none (skip_of s.args.skipping) s.args.table.now s.args.inputs.now s.args.answer.now _ _ c.answered.ensures.0,
-      counted-by-sizes s.args.sizes.now s.args.n s.args.m none (skip_of s.args.skipping) s.args.inputs.now c.answered.result c.answered.ensures.1,
+      looked-by-sizes c.args.sizes.now c.args.n c.args.m none (skip_of c.args.skipping) c.args.table.now c.args.inputs.now c.args.answer.now _ _ c.answered.ensures.0,
+      counted-by-sizes c.args.sizes.now c.args.n c.args.m none (skip_of c.args.skipping) c.args.inputs.now c.answered.result c.answered.ensures.1,
     )
 
 pub looked_by_sizes_spec : {M : Type 1} → statement M
@@ -35,9 +34,8 @@ looked_by_sizes_spec =
     (λ c κs. tt)
     (λ c κs. tt)
     returns
-    (λ c κs. let s = c in
-    let filled = c.filling_sizes-refusal.ensures in
+    (λ c κs. let filled = c.filling_sizes-refusal.ensures in
     let done = c.if-refusal-ne0.false in
-    laid-by-sizes s.args.sizes.now s.args.n s.args.m (sym filled.number ∙ done) (filled.laid done) _ (filled.row ∙ sym (given _ _ _ (sym done ∙ filled.number))))
+    laid-by-sizes c.args.sizes.now c.args.n c.args.m (sym filled.number ∙ done) (filled.laid done) _ (filled.row ∙ sym (given _ _ _ (sym done ∙ filled.number))))
     (λ c. ap length c.answered.ensures.0.entries ∙ length-left c.answered.result.refusal _ _ _)
     returns-2)

@@ -12,20 +12,18 @@ pub write_spec : {M : Type 1} → statement M
 write_spec =
     tie.close
     (tie.spec
-    (λ c κs. let s = c in ((s.requires.0, c.if-n-le2.true), s.requires.1))
+    (λ c κs. ((c.requires.0, c.if-n-le2.true), c.requires.1))
     (λ c. omega (arith, c.if-n-le2.true))
     (λ c. omega (arith, c.if-n-le2.true))
     (λ c κs. tt)
-    (λ c. let call = c in ap length call.one_or_two-refusal.ensures.entries ∙ length-left call.one_or_two-refusal.result _ _ _)
-    (λ c. let call = c in
-    let s = call in
-    let two = call.if-n-le2.true in (
-      two-settled (skip_of s.args.skipping) s.args.sizes.now s.args.inputs.now two s.args.m s.args.table.now s.args.answer.now _ _ _ c.tally.ensures.0 call.one_or_two-refusal.ensures,
-      counts-as _ _ c.tally.result (two-reads (skip_of s.args.skipping) s.args.sizes.now s.args.inputs.now two s.requires.0.inks-from) c.tally.ensures.1,
+    (λ c. ap length c.one_or_two-refusal.ensures.entries ∙ length-left c.one_or_two-refusal.result _ _ _)
+    (λ c. let two = c.if-n-le2.true in (
+      two-settled (skip_of c.args.skipping) c.args.sizes.now c.args.inputs.now two c.args.m c.args.table.now c.args.answer.now _ _ _ c.tally.ensures.0 c.one_or_two-refusal.ensures,
+      counts-as _ _ c.tally.result (two-reads (skip_of c.args.skipping) c.args.sizes.now c.args.inputs.now two c.requires.0.inks-from) c.tally.ensures.1,
     ))
-    (λ c κs. let s = c in ((s.requires.0, omega (arith, c.if-n-le2.false), c.if-n-le4.true), s.requires.1))
-    (λ c. let call = c in ap length call.three_or_four.ensures.0.entries ∙ length-left call.three_or_four.result.refusal _ _ _)
+    (λ c κs. ((c.requires.0, omega (arith, c.if-n-le2.false), c.if-n-le4.true), c.requires.1))
+    (λ c. ap length c.three_or_four.ensures.0.entries ∙ length-left c.three_or_four.result.refusal _ _ _)
     (λ c. c.three_or_four.ensures)
-    (λ c κs. let s = c in ((s.requires.0, omega (arith, c.if-n-le2.false)), s.requires.1))
-    (λ c. let call = c in ap length call.many.ensures.0.entries ∙ length-left call.many.result.refusal _ _ _)
+    (λ c κs. ((c.requires.0, omega (arith, c.if-n-le2.false)), c.requires.1))
+    (λ c. ap length c.many.ensures.0.entries ∙ length-left c.many.result.refusal _ _ _)
     (λ c. c.many.ensures))

@@ -46,8 +46,7 @@ loop-again c = let at = c.loop-index in (omega arith, stored _ at.index _ _ _ c.
 returns-2 : tie.Need-returns invariant-loop decreases-loop
 returns-2 c =
     let at = c.loop-index in
-    let before = c in
-    all _ at.index before.scale-s.result _ at.weights before.if-g-eq0.false before.scale-s.ensures refl (omega arith) at.invariant.1
+    all _ at.index c.scale-s.result _ at.weights c.if-g-eq0.false c.scale-s.ensures refl (omega arith) at.invariant.1
 
 pub create_ranged_256_spec : {M : Type 1} → statement M
 create_ranged_256_spec =

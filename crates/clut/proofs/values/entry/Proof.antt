@@ -19,4 +19,4 @@ entry_spec =
     (tie.spec
     (λ c κs. search rules)
     (λ c κs. search rules)
-    (λ c. let s = c in entry-is s.args.most s.args.width s.args.bytes.now s.args.e _ _ s.requires.1 c.value.ensures c.unit.ensures))
+    (λ c. entry-is c.args.most c.args.width c.args.bytes.now c.args.e _ _ c.requires.1 c.value.ensures c.unit.ensures))

@@ -24,22 +24,21 @@ two width from to other = omega arith
 
 -- a width that is not one is two
 is-two : (c : tie.Else-width-eq1) → c.args.width ≡ 2
-is-two c = let s = c in two _ s.requires.0.0 s.requires.0.1 c.if-width-eq1.false
+is-two c = two _ c.requires.0.0 c.requires.0.1 c.if-width-eq1.false
 
 pub read_spec : {M : Type 1} → statement M
 unfolding written
 read_spec =
     tie.close
     (tie.spec
-    (λ c κs. let s = c in ((omega arith, refl), (room_for _ _ _ _ c.if-width-eq1.true s.requires.1.0, s.requires.1.1, omega arith)))
+    (λ c κs. ((omega arith, refl), (room_for _ _ _ _ c.if-width-eq1.true c.requires.1.0, c.requires.1.1, omega arith)))
     (λ c. search rules)
     (λ c. let a = c.args in
     by_width _ _ c.if-width-eq1.true a.bytes.now a.count a.entries.now _ (c.rest.ensures a.entries.now refl))
-    (λ c κs. let s = c in (room_for _ _ _ _ (is-two c.before) s.requires.1.0, s.requires.1.1))
-    (λ c κs. let s = c in
-    let fours = c.fours-done in
+    (λ c κs. (room_for _ _ _ _ (is-two c.before) c.requires.1.0, c.requires.1.1))
+    (λ c κs. let fours = c.fours-done in
     let long = ap length fours.ensures.1 ∙ length-written _ fours.result _ in
-    ((omega arith, refl), (room_for _ _ _ _ (is-two c.before.before.before.before.before) s.requires.1.0, omega (arith, long, s.requires.1.1), fours.ensures.0)))
+    ((omega arith, refl), (room_for _ _ _ _ (is-two c.before.before.before.before.before) c.requires.1.0, omega (arith, long, c.requires.1.1), fours.ensures.0)))
     (λ c. search rules)
     (λ c. let a = c.args in
     let fours = c.fours-done in

@@ -29,8 +29,7 @@ rest_spec =
     invariant-loop
     decreases-loop
     (λ c. (omega arith, refl, λ old h. h))
-    (λ c κs. let s = c in
-    ((s.requires.0.0, room_of s.args.width c.loop-e.e s.args.count _ c.loop-e-test.true s.requires.1.0), s.requires.0.1))
+    (λ c κs. ((c.requires.0.0, room_of c.args.width c.loop-e.e c.args.count _ c.loop-e-test.true c.requires.1.0), c.requires.0.1))
     (λ c. search rules)
     (λ c. omega arith)
     (λ c. search rules)

@@ -7,20 +7,15 @@ use Rattle.cubes.proofs.blends.pyramid.Tie as tie
 
 returns : tie.Need-returns-then-both_above
 returns c =
-    let at = c in
-    simp (c.bend.ensures, c.terms.ensures, sym at.both_above.ensures ∙ at.if-both_above.true)
+    simp (c.bend.ensures, c.terms.ensures, sym c.both_above.ensures ∙ c.if-both_above.true)
 
 returns-2 : tie.Need-returns-then-both_above-2
 returns-2 c =
-    let second = c in
-    let first = second in
-    simp (c.bend-then-both_above-2.ensures, c.terms-then-both_above-2.ensures, sym first.both_above.ensures ∙ first.if-both_above.false, sym second.both_above-2.ensures ∙ second.if-both_above-2.true)
+    simp (c.bend-then-both_above-2.ensures, c.terms-then-both_above-2.ensures, sym c.both_above.ensures ∙ c.if-both_above.false, sym c.both_above-2.ensures ∙ c.if-both_above-2.true)
 
 returns-3 : tie.Need-returns
 returns-3 c =
-    let second = c in
-    let first = second in
-    simp (c.bend-2.ensures, c.terms-2.ensures, sym first.both_above.ensures ∙ first.if-both_above.false, sym second.both_above-2.ensures ∙ second.if-both_above-2.false)
+    simp (c.bend-2.ensures, c.terms-2.ensures, sym c.both_above.ensures ∙ c.if-both_above.false, sym c.both_above-2.ensures ∙ c.if-both_above-2.false)
 
 pub pyramid_spec : {M : Type 1} → statement M
 pyramid_spec =

@@ -5,9 +5,7 @@ use Rattle.cubes.proofs.blends.trilinear.Tie as tie
 
 returns : tie.Need-returns
 returns c =
-    let green = c in
-    let red = green in
-    simp (c.lerp.ensures, c.lerp-c1.ensures, green.lerp-c0.ensures, green.lerp-c11.ensures, red.lerp-c01.ensures, red.lerp-c10.ensures, red.lerp-c00.ensures)
+    simp (c.lerp.ensures, c.lerp-c1.ensures, c.lerp-c0.ensures, c.lerp-c11.ensures, c.lerp-c01.ensures, c.lerp-c10.ensures, c.lerp-c00.ensures)
 
 pub trilinear_spec : {M : Type 1} → statement M
 trilinear_spec =

@@ -27,10 +27,10 @@ wide c = le-ltb _ _ c.if-room-m.false
 
 -- the products on the way to the total
 square : (c : tie.Else-g-eq0) → let g = c.args.g in g * g ≤ 65025
-square c = let at = c in square-small at.args.g at.args.g (omega arith) (omega arith)
+square c = square-small c.args.g c.args.g (omega arith) (omega arith)
 
 nodes : (c : tie.Else-g-eq0) → let g = c.args.g in g * g * g ≤ 16646400
-nodes c = let at = c in node-small (at.args.g * at.args.g) at.args.g (omega (arith, square c)) (omega arith)
+nodes c = node-small (c.args.g * c.args.g) c.args.g (omega (arith, square c)) (omega arith)
 
 all : (c : tie.Else-g-eq0) → let at = c.args in at.g * at.g * at.g * at.m ≤ 66586620
 all c = let at = c.args in entry-small (at.g * at.g * at.g) at.m (omega (arith, nodes c)) (few at.m (counted c.before))
@@ -56,13 +56,11 @@ returns-4 c = simp (counted c.before.before.before, some c.before.before, long c
 returns-5 : tie.Need-returns-then-not-inside
 unfolding refusal
 returns-5 c =
-    let at = c in
     simp (counted c.before.before.before.before.before, some c.before.before.before.before, long c.before.before.before, wide c.before.before, sym c.inside.ensures ∙ c.if-not-inside.true)
 
 returns-6 : tie.Need-returns
 unfolding refusal
 returns-6 c =
-    let at = c in
     simp (counted c.before.before.before.before.before, some c.before.before.before.before, long c.before.before.before, wide c.before.before, sym c.inside.ensures ∙ c.if-not-inside.false)
 
 pub checked_spec : {M : Type 1} → statement M

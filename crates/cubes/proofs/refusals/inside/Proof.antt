@@ -10,14 +10,11 @@ returns c = simp (sym c.on_grid.ensures ∙ c.if-not-on_grid.true)
 
 returns-2 : tie.Need-returns-then-not-on_grid-2
 returns-2 c =
-    let at = c in
-    simp (sym at.on_grid.ensures ∙ at.if-not-on_grid.false, sym c.on_grid-2.ensures ∙ c.if-not-on_grid-2.true)
+    simp (sym c.on_grid.ensures ∙ c.if-not-on_grid.false, sym c.on_grid-2.ensures ∙ c.if-not-on_grid-2.true)
 
 returns-3 : tie.Need-returns
 returns-3 c =
-    let second = c in
-    let first = second in
-    simp (sym first.on_grid.ensures ∙ first.if-not-on_grid.false, sym second.on_grid-2.ensures ∙ second.if-not-on_grid-2.false, c.on_grid-3.ensures)
+    simp (sym c.on_grid.ensures ∙ c.if-not-on_grid.false, sym c.on_grid-2.ensures ∙ c.if-not-on_grid-2.false, c.on_grid-3.ensures)
 
 pub inside_spec : {M : Type 1} → statement M
 inside_spec = tie.close (tie.spec (λ c κs. search rules) returns (λ c κs. search rules) returns-2 (λ c κs. search rules) returns-3)

@@ -49,8 +49,7 @@ copy_all_spec =
     (λ c. let h = few c.before in search rules)
     (λ c. let h = few c.before in search rules)
     (λ c. let h = few c.before in search rules)
-    (λ c κs. let l = c in
-    (omega (arith, held c.before.before, c.at_most_126-here.ensures), omega (arith, kept c.before.before.before, c.at_most_126-here.ensures, (starts c.before.before).0, c.requires.2)))
+    (λ c κs. (omega (arith, held c.before.before, c.at_most_126-here.ensures), omega (arith, kept c.before.before.before, c.at_most_126-here.ensures, (starts c.before.before).0, c.requires.2)))
     (λ c. let h = few c.before.before.before.before.before in search rules)
     (λ c. omega (arith, c.loop-k-test.true))
     (λ c. let l = c.loop-k in

@@ -64,9 +64,8 @@ put_all_spec =
     (λ c κs. tt)
     (λ c. search rules)
     (λ c κs.
-    let s = c in
-    let five : length c.head_words-head.result ≡ 5 = ap length c.head_words-head.ensures ∙ length-tabulate 5 (λ j. word_at (s.args.n ∷ s.args.m ∷ s.args.sizes) (4 * j)) in
-    (omega arith, omega (arith, five), omega (arith, file-long (length s.args.bits.now), s.requires.1)))
+    let five : length c.head_words-head.result ≡ 5 = ap length c.head_words-head.ensures ∙ length-tabulate 5 (λ j. word_at (c.args.n ∷ c.args.m ∷ c.args.sizes) (4 * j)) in
+    (omega arith, omega (arith, five), omega (arith, file-long (length c.args.bits.now), c.requires.1)))
     (λ c κs. c.requires.0)
     (λ c. (omega arith, refl, λ head old e. e))
     (λ c. let h = (starts c).0 in search rules)
@@ -79,13 +78,12 @@ put_all_spec =
     (λ c κs. (omega (arith, (starts c.before.before).0), c.at_most_126-here.ensures, room c.before.before))
     (λ c. let h = few c.before.before.before.before.before in search rules)
     (λ c. omega (arith, c.loop-k-test.true))
-    (λ c. let l = c in (
+    (λ c. (
       omega (arith, c.loop-k-test.true),
-      ap length c.put_block-in-loop-k.ensures ∙ length-written-from _ _ 512 _ ∙ l.loop-k.invariant.1,
-      (λ head old e. file-next head (start c.before.before.before.before.before.before).args.bits.now l.loop-k.k old l.loop-k.file _ (l.loop-k.invariant.2 head old e) c.put_block-in-loop-k.ensures),
+      ap length c.put_block-in-loop-k.ensures ∙ length-written-from _ _ 512 _ ∙ c.loop-k.invariant.1,
+      (λ head old e. file-next head (start c.before.before.before.before.before.before).args.bits.now c.loop-k.k old c.loop-k.file _ (c.loop-k.invariant.2 head old e) c.put_block-in-loop-k.ensures),
     ))
     (λ c. kept c.before)
-    (λ c. let l = c in
-    let a = (start c.before).args in
-    l.loop-k.invariant.2 (head c.before) a.file.now (first c.before)
-    ∙ ap (λ (n : ℕ). written (file_byte (head c.before) a.bits.now) n a.file.now) (whole l.loop-k.k _ (le_antisymm l.loop-k.invariant.0 c.loop-k-test.false ∙ count-is c.before))))
+    (λ c. let a = (start c.before).args in
+    c.loop-k.invariant.2 (head c.before) a.file.now (first c.before)
+    ∙ ap (λ (n : ℕ). written (file_byte (head c.before) a.bits.now) n a.file.now) (whole c.loop-k.k _ (le_antisymm c.loop-k.invariant.0 c.loop-k-test.false ∙ count-is c.before))))

@@ -17,9 +17,8 @@ turned_at_spec =
     (λ c. search rules)
     (λ c. search rules)
     (λ c κs. search rules)
-    (λ c. let s = c in
-    let file = s.args.file.now in
-    let at = s.args.at in
+    (λ c. let file = c.args.file.now in
+    let at = c.args.at in
     let byte : (i : ℕ) → get_or file i 0 < 256 = λ i. (c.shared_slice_known-1.given i).fits in
     ap turned_word c.joined.ensures
     ∙ turned-joined _ _ _ _ (byte at) (byte (at + 1)) (byte (at + 2)) (byte (at + 3))

@@ -61,8 +61,7 @@ tested : (c : tie.Else-lines-k) (r : ℕ) →
     cond (ltb a.room (entries (fewer a.lut a.j))) 8 0 ≡ r → Checked a.lut a.table a.j a.k a.room r
 unfolding refusal
 tested c r last =
-    let else1 = c in
-    number c.before.before.before.before.before.before.before r (sym (simp (else1.if-not-is_layout.false, enough c.before.before.before.before, ink c.before.before, lt-ltb _ _ c.if-lines-k.false) last))
+    number c.before.before.before.before.before.before.before r (sym (simp (c.if-not-is_layout.false, enough c.before.before.before.before, ink c.before.before, lt-ltb _ _ c.if-lines-k.false) last))
 
 by-room : (c : tie.Else-lines-k) →
     let a = c.args in
@@ -83,8 +82,7 @@ refused_spec =
     (λ c. omega (arith, (counts c.before).0))
     (λ c. omega (arith, placed c.before, (counts c.before).0))
     (λ c. search rules)
-    (λ c. let else1 = c in
-    number c.before.before.before.before.before.before.before 12 (sym (simp (else1.if-not-is_layout.false, enough c.before.before.before.before, ink c.before.before, le-ltb _ _ c.if-lines-k.true))))
+    (λ c. number c.before.before.before.before.before.before.before 12 (sym (simp (c.if-not-is_layout.false, enough c.before.before.before.before, ink c.before.before, le-ltb _ _ c.if-lines-k.true))))
     (λ c. search rules)
     (λ c. size-some c.before.before)
     (λ c. tested c.before 8 (ap (λ (b : Bool). cond b 8 0) (by-room c.before ∙ lt-ltb _ _ c.if-room-total.true)))

@@ -21,12 +21,12 @@ pub cut_spec : {M : Type 1} → statement M
 cut_spec =
     tie.close
     (tie.spec
-    (λ c κs. let s = c in fit-for _ _ _ _ _ _ _ c.if-run-eq3.true s.requires)
+    (λ c κs. fit-for _ _ _ _ _ _ _ c.if-run-eq3.true c.requires)
     (λ c. search rules)
-    (λ c. let s = c in by-run _ _ c.if-run-eq3.true s.args.table.now _ _ _ s.args.slab.now _ c.copy.ensures)
-    (λ c κs. let s = c in fit-for _ _ _ _ _ _ _ c.if-run-eq4.true s.requires)
+    (λ c. by-run _ _ c.if-run-eq3.true c.args.table.now _ _ _ c.args.slab.now _ c.copy.ensures)
+    (λ c κs. fit-for _ _ _ _ _ _ _ c.if-run-eq4.true c.requires)
     (λ c. search rules)
-    (λ c. let s = c in by-run _ _ c.if-run-eq4.true s.args.table.now _ _ _ s.args.slab.now _ c.copy-then-run-eq4.ensures)
+    (λ c. by-run _ _ c.if-run-eq4.true c.args.table.now _ _ _ c.args.slab.now _ c.copy-then-run-eq4.ensures)
     (λ c κs. c.requires)
     (λ c. search rules)
     (λ c. c.copy-2.ensures))

@@ -33,8 +33,7 @@ second-is-nan c = ((λ e. cc), (λ e number. absurd (number (is-nan c.args.b c.i
 
 compared : tie.Need-returns
 compared c =
-    let start = c in
-    ((λ e. bits-tell start.args.a start.args.b start.well_formed.0.1 start.well_formed.1.0.1 (eqb-true _ _ e)), (λ e number. eq-eqb _ _ (ap (to_bits binary32) e)))
+    ((λ e. bits-tell c.args.a c.args.b c.well_formed.0.1 c.well_formed.1.0.1 (eqb-true _ _ e)), (λ e number. eq-eqb _ _ (ap (to_bits binary32) e)))
 
 pub same_bits_spec : {M : Type 1} → statement M
 same_bits_spec =

@@ -44,13 +44,10 @@ module _ (c : tie.In-loop-i invariant-loop decreases-loop) where
 one-place-more : tie.Need-loop-i-preserved invariant-loop decreases-loop
 unfolding of_bits
 one-place-more c =
-    let else3 = c in
-    let else2 = c in
-    let else1 = c in
-    let zero = else3.same_bits.ensures.0 else3.if-not-same_bits.false in (
+    let zero = c.same_bits.ensures.0 c.if-not-same_bits.false in (
       le_trans (unused c.before.before.before.before.before) (le-add_right _ 1),
       omega (arith, inside c.before.before.before.before.before),
-      below_more _ _ else1.loop-i.invariant.2 (λ l. record { stride-is = else1.if-strides-i-ne1.false; filling-is = else2.if-filling-i-ne1.false; scale-is = zero; size_is = c.if-sizes-i-ne0.false }),
+      below_more _ _ c.loop-i.invariant.2 (λ l. record { stride-is = c.if-strides-i-ne1.false; filling-is = c.if-filling-i-ne1.false; scale-is = zero; size_is = c.if-sizes-i-ne0.false }),
     )
 
 pub unused_spec : {M : Type 1} → statement M

@@ -82,27 +82,22 @@ module _ (c : tie.In-loop-i invariant-loop decreases-loop) where
 
 -- the stride that was read is right
 stored_is : (c : tie.Else-stored-stride invariant-loop decreases-loop) →
-    let turn = c in
     get_or (start c.before.before).args.strides (i c.before.before - 1) 0 ≡ stride (used c.before.before) (i c.before.before - 1)
 stored_is c = c.if-stored-stride.false ∙ here c.before.before
 
 again : tie.Need-loop-i-preserved invariant-loop decreases-loop
 again c =
-    let else3 = c in
-    let else2 = c in
-    let else1 = c in
-    let turn = c in
     let args = (start c.before.before.before.before.before.before).args in
-    let inv = turn.loop-i.invariant in
+    let inv = c.loop-i.invariant in
     let right : UsedAt args.strides args.filling args.scale args.sizes args.n args.m (i c.before.before.before.before.before.before - 1) =
     record {
-      above = pos_of_ne-zero else1.if-size-eq0.false;
+      above = pos_of_ne-zero c.if-size-eq0.false;
       stride-is = stored_is c.before.before.before.before;
-      filling-is = else3.if-filling-i.false ∙ ap (λ (x : ℕ). args.m * x) (stored_is c.before.before.before.before);
+      filling-is = c.if-filling-i.false ∙ ap (λ (x : ℕ). args.m * x) (stored_is c.before.before.before.before);
       scale-is = c.same_bits.ensures.0 c.if-not-same_bits.false;
     } in (
       search rules,
-      ap (λ (x : ℕ). x * get_or args.sizes (i c.before.before.before.before.before.before - 1) 0) (else2.if-stored-stride.false ∙ inv.1) ∙ sym (next c.before.before.before.before.before.before),
+      ap (λ (x : ℕ). x * get_or args.sizes (i c.before.before.before.before.before.before - 1) 0) (c.if-stored-stride.false ∙ inv.1) ∙ sym (next c.before.before.before.before.before.before),
       mul-le-mul {m₂ = 255} (stored-fits c.before.before.before.before.before.before) (size_fits c.before.before.before.before.before.before),
       from_less args.n (i c.before.before.before.before.before.before) inv.3 right,
     )

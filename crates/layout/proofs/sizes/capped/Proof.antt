@@ -42,22 +42,20 @@ byte c = bytes-at c.args.sizes.now c.requires.1.bytes c.loop-i.i
 
 product-fits : tie.Need-overflow_mul-t invariant-loop decreases-loop
 product-fits c =
-    let at = c in
-    let cut = min-le_right (product (take at.loop-i.i at.args.sizes.now) * at.args.m) (limit + 1) in
+    let cut = min-le_right (product (take c.loop-i.i c.args.sizes.now) * c.args.m) (limit + 1) in
     Fits-le (mul-le-mul {n₂ = limit + 1} {m₂ = 255} (omega (arith, cut)) (omega (arith, byte c.before.before))) (Fits-lit tt)
 
 one-size-more : tie.Need-loop-i-preserved invariant-loop decreases-loop
 one-size-more c =
-    let at = c in
-    let m = at.args.m in
-    let sizes = at.args.sizes.now in
-    let i = at.loop-i.i in
-    let t = at.loop-i.t in
+    let m = c.args.m in
+    let sizes = c.args.sizes.now in
+    let i = c.loop-i.i in
+    let t = c.loop-i.t in
     let p = product (take i sizes) in
     let e = get_or sizes i 0 in
     let next : product (take (i + 1) sizes) * m ≡ p * m * e = rw (add-one, product-take-suc sizes i (omega arith)) (mul_right_comm p e m) in
     let step : min (t * e) (limit + 1) ≡ min (product (take (i + 1) sizes) * m) (limit + 1) =
-    ap (λ (x : ℕ). min (x * e) (limit + 1)) at.loop-i.invariant.1 ∙ cut_step (limit + 1) (p * m) e ∙ ap (λ (x : ℕ). min x (limit + 1)) (sym next) in (
+    ap (λ (x : ℕ). min (x * e) (limit + 1)) c.loop-i.invariant.1 ∙ cut_step (limit + 1) (p * m) e ∙ ap (λ (x : ℕ). min x (limit + 1)) (sym next) in (
       search rules,
       ⊎_elim (λ w. w.t-is ∙ sym (min-eq_right w.if-t-gt-LIMIT.true) ∙ step) (λ w. w.t-is ∙ sym (min-eq_left (le_trans w.if-t-gt-LIMIT.false (lit≤ tt))) ∙ step) c.if-t-gt-LIMIT.branch-raw,
     )

@@ -46,8 +46,7 @@ each_spec =
     (λ c. (turn c.before.before).inside)
     (λ c. (turn c.before.before).next)
     (λ c. (turn c.before.before).fewer)
-    (λ c. let l = c in
-    turned_more _ _ _ _ _ l.loop-o.invariant l.loop-o-test.true _
-    (from-output (start c.before.before).args.table.now l.loop-o.o (cells c.before.before) _ c.value.ensures))
+    (λ c. turned_more _ _ _ _ _ c.loop-o.invariant c.loop-o-test.true _
+    (from-output (start c.before.before).args.table.now c.loop-o.o (cells c.before.before) _ c.value.ensures))
     (λ c. c.loop-o.invariant.room)
     (λ c. turned-all _ _ _ _ _ c.loop-o.invariant c.loop-o-test.false))

@@ -17,12 +17,11 @@ refused_spec =
     (λ c. record { laid = c.is_layout.result; decides = c.is_layout.ensures; number = sym (simp c.if-not-is_layout.true) })
     (λ c κs. tt)
     (λ c κs. tt)
-    (λ c. let s = c in
-    let layout = c.is_layout in
+    (λ c. let layout = c.is_layout in
     let is = c.if-not-is_layout.false in
-    let total = c.entry_count.ensures ∙ first-filling s.args.lut (layout.ensures.holds is) in
+    let total = c.entry_count.ensures ∙ first-filling c.args.lut (layout.ensures.holds is) in
     record {
       laid = layout.result;
       decides = layout.ensures;
-      number = c.length_refusal.ensures ∙ ap (λ (t : ℕ). length_refusal t s.args.lut.input_inks s.args.table s.args.given 0) total ∙ ap (λ (b : Bool). cond (not b) 9 (length_refusal (entries s.args.lut) s.args.lut.input_inks s.args.table s.args.given 0)) (sym is);
+      number = c.length_refusal.ensures ∙ ap (λ (t : ℕ). length_refusal t c.args.lut.input_inks c.args.table c.args.given 0) total ∙ ap (λ (b : Bool). cond (not b) 9 (length_refusal (entries c.args.lut) c.args.lut.input_inks c.args.table c.args.given 0)) (sym is);
     }))

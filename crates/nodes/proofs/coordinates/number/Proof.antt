@@ -37,18 +37,16 @@ strided-next strides ks i h =
 
 -- a coordinate times a stride
 term-low : (c : tie.After-shared_slice_known-1 invariant-loop decreases-loop) →
-    let start = c in
     let i = c.loop-i.i in
-    get_or start.args.coordinates.now i 0 * get_or start.args.lut.grid_strides i 0 ≤ 2 ^ 40
+    get_or c.args.coordinates.now i 0 * get_or c.args.lut.grid_strides i 0 ≤ 2 ^ 40
 term-low c =
-    let start = c in
     let i = c.loop-i.i in
-    let ks = start.args.coordinates.now in
-    let inside : in_grid (last_first (length ks) start.args.lut.grid_sizes) (last_first (length ks) ks) ≡ true =
-    (λ j. in_grid (last_first (start.requires.1.0 j) start.args.lut.grid_sizes) (sym (reverse-all ks) j)) ∙ start.requires.1.1 in
-    let line = in-grid-at start.args.lut.grid_sizes ks (length ks) i inside c.loop-i-test.true in
-    let byte : Fits w8 (get_or start.args.lut.grid_sizes i 0) = search rules in
-    let wide : Fits w32 (get_or start.args.lut.grid_strides i 0) = search rules in
+    let ks = c.args.coordinates.now in
+    let inside : in_grid (last_first (length ks) c.args.lut.grid_sizes) (last_first (length ks) ks) ≡ true =
+    (λ j. in_grid (last_first (c.requires.1.0 j) c.args.lut.grid_sizes) (sym (reverse-all ks) j)) ∙ c.requires.1.1 in
+    let line = in-grid-at c.args.lut.grid_sizes ks (length ks) i inside c.loop-i-test.true in
+    let byte : Fits w8 (get_or c.args.lut.grid_sizes i 0) = search rules in
+    let wide : Fits w32 (get_or c.args.lut.grid_strides i 0) = search rules in
     le_trans (mul-le-mul {n₂ = 255} {m₂ = 2 ^ 32 - 1} (omega arith) (omega arith)) (lit≤ tt)
 
 loop-holds : tie.Need-loop-i-init invariant-loop decreases-loop
@@ -56,18 +54,16 @@ unfolding strided
 loop-holds c = (omega arith, refl, omega arith)
 
 -- at the end the sum is the node's number
-sum_is : (c : tie.After-loop-i invariant-loop decreases-loop) → let start = c in c.loop-i.sum ≡ strided start.args.lut.grid_strides (reverse start.args.coordinates.now)
+sum_is : (c : tie.After-loop-i invariant-loop decreases-loop) → c.loop-i.sum ≡ strided c.args.lut.grid_strides (reverse c.args.coordinates.now)
 sum_is c =
-    let start = c in
-    let ks = start.args.coordinates.now in
+    let ks = c.args.coordinates.now in
     let all : c.loop-i.i ≡ length ks = omega arith in
-    c.loop-i.invariant.1 ∙ ap (λ (l : List ℕ). strided start.args.lut.grid_strides (reverse l)) (ap (λ (k : ℕ). take k ks) all ∙ take-length ks)
+    c.loop-i.invariant.1 ∙ ap (λ (l : List ℕ). strided c.args.lut.grid_strides (reverse l)) (ap (λ (k : ℕ). take k ks) all ∙ take-length ks)
 
-number_is : (c : tie.After-loop-i invariant-loop decreases-loop) → let start = c in c.loop-i.sum ≡ index (ink_sizes start.args.lut) (reverse start.args.coordinates.now)
+number_is : (c : tie.After-loop-i invariant-loop decreases-loop) → c.loop-i.sum ≡ index (ink_sizes c.args.lut) (reverse c.args.coordinates.now)
 number_is c =
-    let start = c in
-    let ks = start.args.coordinates.now in
-    sum_is c ∙ node_of start.args.lut start.requires.0 (reverse ks) (length-reverse ks ∙ start.requires.1.0)
+    let ks = c.args.coordinates.now in
+    sum_is c ∙ node_of c.args.lut c.requires.0 (reverse ks) (length-reverse ks ∙ c.requires.1.0)
 
 pub number_spec : {M : Type 1} → statement M
 number_spec =
@@ -85,9 +81,7 @@ number_spec =
     (λ c. omega (arith, term-low c, inks-to c.args.lut c.requires.0))
     (λ c. omega (arith, inks-to c.args.lut c.requires.0))
     (λ c. omega (arith, inks-to c.args.lut c.requires.0))
-    (λ c. let s = c in
-    let next = strided-next s.args.lut.grid_strides s.args.coordinates.now c.loop-i.i (omega arith) in
+    (λ c. let next = strided-next c.args.lut.grid_strides c.args.coordinates.now c.loop-i.i (omega arith) in
     (omega arith, omega (arith, next), omega (arith, term-low c)))
-    (λ c. let s = c in
-    omega (arith, number_is c, node-fits s.args.lut s.requires.0 (reverse s.args.coordinates.now) (in-grid-within _ _ s.requires.1.1)))
+    (λ c. omega (arith, number_is c, node-fits c.args.lut c.requires.0 (reverse c.args.coordinates.now) (in-grid-within _ _ c.requires.1.1)))
     (λ c. number_is c))

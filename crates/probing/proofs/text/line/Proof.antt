@@ -30,5 +30,4 @@ line_spec =
     let answers = c.args.answers.now in
     omega (arith, c.requires, first.next, put-length first, length-bits (get_or answers 0 nan), ap length (rest-drop 1 answers) ∙ length-drop 1 answers))
     (λ c. search rules)
-    (λ c. let start = c in
-    rw (first-others start.args.answers.now start.requires.0) at (put_then c.hex-at.ensures c.further.ensures)))
+    (λ c. rw (first-others c.args.answers.now c.requires.0) at (put_then c.hex-at.ensures c.further.ensures)))

@@ -25,10 +25,8 @@ decreases-loop filling sizes inputs step₀ w₀ at₀ i₀ step w at i = length
 -- a NaN
 returns : tie.Need-returns-in_default invariant-loop decreases-loop
 returns c =
-    let at = c in
-    let s = c in
-    let one = read-nan s.args.filling.now s.args.sizes.now s.args.inputs.now _ _ at.ink-of.ensures at.loop-i-test.true c.in_default.is in
-    (lowest-nan _ _ one, ((λ none. absurd (true≢false (sym one ∙ none))), (at.loop-i.invariant.steps, at.loop-i.invariant.weights)))
+    let one = read-nan c.args.filling.now c.args.sizes.now c.args.inputs.now _ _ c.ink-of.ensures c.loop-i-test.true c.in_default.is in
+    (lowest-nan _ _ one, ((λ none. absurd (true≢false (sym one ∙ none))), (c.loop-i.invariant.steps, c.loop-i.invariant.weights)))
 
 -- a turn with a cell
 module _ (c : tie.After-struct_known-1 invariant-loop decreases-loop) where
@@ -61,8 +59,8 @@ cells_spec =
     (tie.spec
     invariant-loop
     decreases-loop
-    (λ c. let s = c in stepping-none s.args.filling.now s.args.sizes.now s.args.inputs.now s.args.step.now s.args.w.now s.requires.1.1.1.0 s.requires.1.1.1.1)
-    (λ c κs. let s = c in (omega (arith, c.loop-i-test.true, s.requires.0), c.loop-i-test.true))
+    (λ c. stepping-none c.args.filling.now c.args.sizes.now c.args.inputs.now c.args.step.now c.args.w.now c.requires.1.1.1.0 c.requires.1.1.1.1)
+    (λ c κs. (omega (arith, c.loop-i-test.true, c.requires.0), c.loop-i-test.true))
     (λ c. search rules)
     (λ c. search rules)
     returns
@@ -77,13 +75,12 @@ cells_spec =
     (λ c. let s = start c.before.before in
     let l = (at c.before.before).loop-i in
     stepping-more s.args.filling.now s.args.sizes.now s.args.inputs.now l.step l.w l.at l.i (it c.before.before) (at c.before.before).loop-i-test.true s.requires.0 (is c.before.before) (numbers c.before.before) l.invariant)
-    (λ c. let s = c in
-    let l = c.loop-i in
-    let all : l.i ≡ length s.args.inputs.now = omega (arith, l.invariant.most, c.loop-i-test.false) in
-    let none = some-none is_nan nan s.args.inputs.now (subst (NoNans s.args.inputs.now) all l.invariant.numbers) in (
-      lowest-at s.args.inputs.now _ none _ (l.invariant.base ∙ ap (λ (n : ℕ). lows (first_inks s.args.filling.now s.args.sizes.now s.args.inputs.now n)) all),
+    (λ c. let l = c.loop-i in
+    let all : l.i ≡ length c.args.inputs.now = omega (arith, l.invariant.most, c.loop-i-test.false) in
+    let none = some-none is_nan nan c.args.inputs.now (subst (NoNans c.args.inputs.now) all l.invariant.numbers) in (
+      lowest-at c.args.inputs.now _ none _ (l.invariant.base ∙ ap (λ (n : ℕ). lows (first_inks c.args.filling.now c.args.sizes.now c.args.inputs.now n)) all),
       (
-        (λ same. subst (λ (n : ℕ). steps_at l.step l.w 0 n ≡ stepped (first_inks s.args.filling.now s.args.sizes.now s.args.inputs.now n)) all l.invariant.standing),
+        (λ same. subst (λ (n : ℕ). steps_at l.step l.w 0 n ≡ stepped (first_inks c.args.filling.now c.args.sizes.now c.args.inputs.now n)) all l.invariant.standing),
         (l.invariant.steps, l.invariant.weights),
       ),
     )))

@@ -21,10 +21,9 @@ decreases-loop step₀ w₀ n skipping k at₀ i₀ step w at i = k - i
 -- nothing is skipped
 returns : tie.Need-returns-then-not-skipping invariant-loop decreases-loop
 returns c =
-    let s = c in
-    let all = never-kept s.args.step.now s.args.w.now s.args.n s.requires.0 in
-    let off : s.args.skipping ≡ false = c.if-not-skipping.true in
-    (all ∙ ap (λ (b : Bool). kept_at (skip_of b) s.args.step.now s.args.w.now s.args.n) (sym off), (s.requires.0, omega arith))
+    let all = never-kept c.args.step.now c.args.w.now c.args.n c.requires.0 in
+    let off : c.args.skipping ≡ false = c.if-not-skipping.true in
+    (all ∙ ap (λ (b : Bool). kept_at (skip_of b) c.args.step.now c.args.w.now c.args.n) (sym off), (c.requires.0, omega arith))
 
 -- a turn
 module _ (c : tie.In-loop-i invariant-loop decreases-loop) where
@@ -39,22 +38,20 @@ module _ (c : tie.In-loop-i invariant-loop decreases-loop) where
 
 again : tie.Need-loop-i-preserved invariant-loop decreases-loop
 again c =
-    let turn = c in
     let s = start c.before.before.before.before in
-    let l = turn.loop-i in
-    keeping-more idle s.args.step.now s.args.w.now (s.args.n - 3) l.step l.w l.at l.i l.invariant turn.loop-i-test.true
+    let l = c.loop-i in
+    keeping-more idle s.args.step.now s.args.w.now (s.args.n - 3) l.step l.w l.at l.i l.invariant c.loop-i-test.true
     (omega (arith, s.requires.1)) _ _ refl refl c.places-at.result c.places-at.ensures
 
 returns-2 : tie.Need-returns invariant-loop decreases-loop
 returns-2 c =
-    let s = c in
     let l = c.loop-i in
-    let all : l.i ≡ s.args.n - 3 = omega (arith, l.invariant.most, c.loop-i-test.false) in
-    let on : s.args.skipping ≡ true = c.if-not-skipping.false in (
+    let all : l.i ≡ c.args.n - 3 = omega (arith, l.invariant.most, c.loop-i-test.false) in
+    let on : c.args.skipping ≡ true = c.if-not-skipping.false in (
       l.invariant.standing
-          ∙ ap (λ (k : ℕ). kept idle (steps_at s.args.step.now s.args.w.now 3 k) ++ steps_at s.args.step.now s.args.w.now 0 3) all
-          ∙ ap (λ (b : Bool). kept_at (skip_of b) s.args.step.now s.args.w.now s.args.n) (sym on),
-      (l.invariant.some, omega (arith, l.invariant.few, all, s.requires.0)),
+          ∙ ap (λ (k : ℕ). kept idle (steps_at c.args.step.now c.args.w.now 3 k) ++ steps_at c.args.step.now c.args.w.now 0 3) all
+          ∙ ap (λ (b : Bool). kept_at (skip_of b) c.args.step.now c.args.w.now c.args.n) (sym on),
+      (l.invariant.some, omega (arith, l.invariant.few, all, c.requires.0)),
     )
 
 pub keep_spec : {M : Type 1} → statement M
@@ -65,7 +62,7 @@ keep_spec =
     decreases-loop
     returns
     (λ c. c.requires.0)
-    (λ c. let s = c in keeping_none idle s.args.step.now s.args.w.now (s.args.n - 3) s.requires.2 s.requires.3)
+    (λ c. keeping_none idle c.args.step.now c.args.w.now (c.args.n - 3) c.requires.2 c.requires.3)
     (λ c. omega (arith, next_fits c))
     (λ c. omega (arith, next_fits c))
     (λ c. next_fits c)

@@ -32,15 +32,13 @@ corners_spec =
     (λ c. omega (arith, c.requires.1.1 c.loop-c.c c.loop-c-test.true))
     (λ c. omega (arith, c.requires.1.1 c.loop-c.c c.loop-c-test.true))
     (λ c. omega (arith, c.requires.1.1 c.loop-c.c c.loop-c-test.true))
-    (λ c κs. let s = c in (c.first_three-p.ensures, rw from-length (omega (arith, c.requires.1.1 c.loop-c.c c.loop-c-test.true))))
+    (λ c κs. (c.first_three-p.ensures, rw from-length (omega (arith, c.requires.1.1 c.loop-c.c c.loop-c-test.true))))
     (λ c κs. omega (arith, c.loop-c-test.true, c.requires.0, c.loop-c.invariant.2.room))
     (λ c. omega (arith, c.loop-c-test.true))
     (λ c. omega (arith, c.loop-c-test.true))
-    (λ c. let s = c in
-    let l = c.loop-c in
-    (l.invariant.0, omega (arith, c.loop-c-test.true), cornered-more (tetra_of (first_three s.args.step.now s.args.w.now)) s.args.offs.now s.args.t.now s.args.left s.args.work.now l.work l.c l.invariant.2 _ _ (omega (arith, c.loop-c-test.true, s.requires.0)) c.block.ensures c.put.ensures))
+    (λ c. let l = c.loop-c in
+    (l.invariant.0, omega (arith, c.loop-c-test.true), cornered-more (tetra_of (first_three c.args.step.now c.args.w.now)) c.args.offs.now c.args.t.now c.args.left c.args.work.now l.work l.c l.invariant.2 _ _ (omega (arith, c.loop-c-test.true, c.requires.0)) c.block.ensures c.put.ensures))
     (λ c. c.loop-c.invariant.2.room)
-    (λ c. let s = c in
-    let l = c.loop-c in
-    let all : l.c ≡ s.args.count = omega (arith, l.invariant.1, c.loop-c-test.false) in
-    subst (λ (n : ℕ). Cornered (tetra_of (first_three s.args.step.now s.args.w.now)) s.args.offs.now s.args.t.now s.args.left n s.args.work.now l.work) all l.invariant.2))
+    (λ c. let l = c.loop-c in
+    let all : l.c ≡ c.args.count = omega (arith, l.invariant.1, c.loop-c-test.false) in
+    subst (λ (n : ℕ). Cornered (tetra_of (first_three c.args.step.now c.args.w.now)) c.args.offs.now c.args.t.now c.args.left n c.args.work.now l.work) all l.invariant.2))

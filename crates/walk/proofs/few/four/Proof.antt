@@ -41,33 +41,26 @@ four_spec =
     (λ c κs. tt)
     (λ c κs. (c.requires.0, c.requires.1))
     (λ c. same-room _ _ _ _ c.four_each.ensures)
-    (λ c. let s = c in written-gives _ s.args.m s.args.out.now _ s.requires.1 c.four_each.ensures)
+    (λ c. written-gives _ c.args.m c.args.out.now _ c.requires.1 c.four_each.ensures)
     (λ c κs. ((start c).requires.0.0, omega (arith, (block c).1)))
     (λ c κs. (omega arith, (start c.before.before.before).requires.1))
     (λ c. c.give.ensures.room)
-    (λ c. let below = c in
-    let k = c in
-    let s = start c.before.before.before.before.before.before in
+    (λ c. let s = start c.before.before.before.before.before.before in
     given s true c.if-alone.true _
-    (block-gives (answers s true) s.args.m s.args.out.now _ below.tetra4-below.result (block c.before.before.before.before.before.before).0 c.give.ensures
-    (lane-is _ (λ o. tetra_of s.args.p o s.args.t.now) below.tetra4-below.ensures)))
+    (block-gives (answers s true) s.args.m s.args.out.now _ c.tetra4-below.result (block c.before.before.before.before.before.before).0 c.give.ensures
+    (lane-is _ (λ o. tetra_of s.args.p o s.args.t.now) c.tetra4-below.ensures)))
     (λ c. omega arith)
     (λ c. omega arith)
     (λ c. omega arith)
     (λ c. omega arith)
-    (λ c κs. let k = c in ((start c.before.before.before).requires.0.0, rw from-length (omega (arith, (block c.before.before.before).1))))
+    (λ c κs. ((start c.before.before.before).requires.0.0, rw from-length (omega (arith, (block c.before.before.before).1))))
     (λ c κs. tt)
     (λ c κs. (omega arith, (start c.before.before.before.before.before.before).requires.1))
     (λ c. c.give-2.ensures.room)
-    (λ c. let blended = c in
-    let above = c in
-    let apart = c in
-    let below = c in
-    let k = c in
-    let s = start c.before.before.before.before.before.before.before.before.before in
-    given s false apart.if-alone.false _
-    (block-gives (answers s false) s.args.m s.args.out.now _ blended.lerp4.result (block c.before.before.before.before.before.before.before.before.before).0 c.give-2.ensures
-    (λ j h. lane-is _ (λ o. lerp (lane below.tetra4-below.result o) (lane above.tetra4-above.result o) s.args.w) blended.lerp4.ensures j h
+    (λ c. let s = start c.before.before.before.before.before.before.before.before.before in
+    given s false c.if-alone.false _
+    (block-gives (answers s false) s.args.m s.args.out.now _ c.lerp4.result (block c.before.before.before.before.before.before.before.before.before).0 c.give-2.ensures
+    (λ j h. lane-is _ (λ o. lerp (lane c.tetra4-below.result o) (lane c.tetra4-above.result o) s.args.w) c.lerp4.ensures j h
     ∙ ap₂ (λ (x y : Float). lerp x y s.args.w)
-    (lane-is _ (λ o. tetra_of s.args.p o s.args.t.now) below.tetra4-below.ensures j h)
-    (lane-is _ (λ o. tetra_of s.args.p o (take (length s.args.t.now - s.args.h) (drop s.args.h s.args.t.now))) above.tetra4-above.ensures j h ∙ ap (tetra_of s.args.p j) (from-drop s.args.t.now s.args.h))))))
+    (lane-is _ (λ o. tetra_of s.args.p o s.args.t.now) c.tetra4-below.ensures j h)
+    (lane-is _ (λ o. tetra_of s.args.p o (take (length s.args.t.now - s.args.h) (drop s.args.h s.args.t.now))) c.tetra4-above.ensures j h ∙ ap (tetra_of s.args.p j) (from-drop s.args.t.now s.args.h))))))

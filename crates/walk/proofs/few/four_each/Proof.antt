@@ -39,7 +39,7 @@ four_each_spec =
     (tie.spec
     invariant-loop
     decreases-loop
-    (λ c κs. let s = c in ((s.requires.0.0, omega (arith, s.requires.0.1)), s.requires.1))
+    (λ c κs. ((c.requires.0.0, omega (arith, c.requires.0.1)), c.requires.1))
     (λ c. same-room _ _ _ _ c.three_each.ensures)
     (λ c. c.three_each.ensures ∙ told c.before.before.before.before.before.before.before true c.if-alone.true)
     (λ c. omega arith)
@@ -54,11 +54,10 @@ four_each_spec =
     (λ c. (turn c.before.before.before).inside)
     (λ c. (turn c.before.before.before).next)
     (λ c. (turn c.before.before.before).fewer)
-    (λ c. let at = c in
-    let s = start c.before.before.before in
-    turned_more _ _ _ _ _ at.loop-o.invariant at.loop-o-test.true _
+    (λ c. let s = start c.before.before.before in
+    turned_more _ _ _ _ _ c.loop-o.invariant c.loop-o-test.true _
     (c.lerp.ensures
     ∙ ap₂ (λ (x y : Float). lerp x y s.args.w) c.tetra.ensures
-    (c.tetra-in-loop-o.ensures ∙ ap (tetra_of s.args.p at.loop-o.o) (from-drop s.args.t.now s.args.h))))
+    (c.tetra-in-loop-o.ensures ∙ ap (tetra_of s.args.p c.loop-o.o) (from-drop s.args.t.now s.args.h))))
     (λ c. c.loop-o.invariant.room)
     (λ c. turned-all _ _ _ _ _ c.loop-o.invariant c.loop-o-test.false ∙ told c.before.before.before.before.before.before false c.if-alone.false))

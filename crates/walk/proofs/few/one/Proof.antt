@@ -31,16 +31,15 @@ one_spec =
     (tie.spec
     (λ c. omega arith)
     (λ c κs. tt)
-    (λ c κs. let s = c in (omega (arith, s.requires.0.0, s.requires.0.1), s.requires.1))
+    (λ c κs. (omega (arith, c.requires.0.0, c.requires.0.1), c.requires.1))
     (λ c. same-room _ _ _ _ c.one_each.ensures)
-    (λ c. let s = c in written-gives _ s.args.m s.args.out.now _ s.requires.1 c.one_each.ensures)
+    (λ c. written-gives _ c.args.m c.args.out.now _ c.requires.1 c.one_each.ensures)
     (λ c κs. omega (arith, (block c).1, (start c).requires.0.0))
     (λ c κs. (block c.before).1)
     (λ c κs. tt)
     (λ c κs. (omega arith, (start c.before.before.before.before).requires.1))
     (λ c. c.give.ensures.room)
-    (λ c. let k = c in
-    let s = start c.before.before.before.before.before.before.before in
+    (λ c. let s = start c.before.before.before.before.before.before.before in
     block-gives (answer s.args.part.now (s.args.c ∷ [])) s.args.m s.args.out.now _ c.along4-f.result (block c.before.before.before.before.before.before.before).0 c.give.ensures
     (λ j h. lane-is _ (λ i. along (lane c.load.result i) (lane c.load-2.result i) s.args.c.w) c.along4-f.ensures j h
     ∙ ap₂ (λ (x y : Float). along x y s.args.c.w) (lane-is _ (λ i. at s.args.part.now (s.args.c.x + i)) c.load.ensures j h) (lane-is _ (λ i. at s.args.part.now (s.args.c.x_n + i)) c.load-2.ensures j h)

@@ -46,7 +46,6 @@ one_each_spec =
     (λ c. (turn c.before.before.before).next)
     (λ c. (turn c.before.before.before).fewer)
     (λ c. let l = c.loop-o in
-    let s = c in
-    turned_more _ _ _ _ _ l.invariant c.loop-o-test.true _ (c.along.ensures ∙ one-ink s.args.part.now l.o s.args.c))
+    turned_more _ _ _ _ _ l.invariant c.loop-o-test.true _ (c.along.ensures ∙ one-ink c.args.part.now l.o c.args.c))
     (λ c. c.loop-o.invariant.room)
     (λ c. turned-all _ _ _ _ _ c.loop-o.invariant c.loop-o-test.false))

@@ -36,7 +36,7 @@ module _ (k : tie.In-At) where
 -- and the second
 module _ (k : tie.In-At-second) where
   abbrev told : tie.In-At
-  told = k.before.before.before.before.before
+  told = k.before.before.before
 
   abbrev second : Cell
   second = k.in-At-second.d
@@ -45,7 +45,7 @@ module _ (k : tie.In-At-second) where
   two-read = read_more (start told).args.filling.now (start told).args.sizes.now (start told).args.inputs.now 1 _ k.ink-second.ensures (first told ∷ []) (one-read told) second k.in-At-second.is
 
   both : length (start told).args.inputs.now ≡ 2
-  both = omega (arith, (start told).requires.0.0.inks-from, (start told).requires.0.1, k.if-inputs-eq1.left)
+  both = omega (arith, (start told).requires.0.0.inks-from, (start told).requires.0.1, k.if-inputs-eq1.false)
 
   pair-proper : Proper (second ∷ first told ∷ [])
   pair-proper = cells-proper (start told).args.filling.now (start told).args.sizes.now (start told).args.inputs.now (start told).args.m (start told).requires.0.0 (start told).args.table.now (start told).requires.1.0 2 (second ∷ first told ∷ []) two-read.are (omega (arith, both))
@@ -68,29 +68,24 @@ one_or_two_spec =
     (λ c κs. (omega arith, c.requires.0.0.inks-from))
     (λ c. search rules)
     (λ c. search rules)
-    (λ c. let at = c in
-    let s = at in
-    settled-nan s.args.inputs.now _ _ _ (read-nan s.args.filling.now s.args.sizes.now s.args.inputs.now 0 _ at.ink-first.ensures s.requires.0.0.inks-from c.in_default.is))
+    (λ c. settled-nan c.args.inputs.now _ _ _ (read-nan c.args.filling.now c.args.sizes.now c.args.inputs.now 0 _ c.ink-first.ensures c.requires.0.0.inks-from c.in_default.is))
     (λ c. (start c.before).requires.1.1)
     (λ c. let s = start c.before.before in sym (prefix-count s.args.m s.args.answer.now s.requires.1.1))
-    (λ c κs. let k = c.before.before in
-    let s = start k in
-    (((proper k).0.0, omega (arith, reached k)), omega (arith, prefix-count s.args.m s.args.answer.now s.requires.1.1)))
+    (λ c κs. let s = start c.before.before in
+    (((proper c.before.before).0.0, omega (arith, reached c.before.before)), omega (arith, prefix-count s.args.m s.args.answer.now s.requires.1.1)))
     (λ c. let s = start c.before.before.before.before.before in
     prefix-length s.args.m s.args.answer.now c.one.new.out s.requires.1.1 (c.one.ensures.room ∙ prefix-count s.args.m s.args.answer.now s.requires.1.1))
-    (λ c. let k = c.before.before.before.before.before in given-done (start k) 1 _ (one-read k) c.if-inputs-eq1.true _ c.one.ensures)
+    (λ c. given-done (start c.before.before.before.before.before) 1 _ (one-read c.before.before.before.before.before) c.if-inputs-eq1.true _ c.one.ensures)
     (λ c κs. let s = start c.before in (omega arith, omega (arith, s.requires.0.0.inks-from, c.if-inputs-eq1.false)))
     (λ c. search rules)
     (λ c. search rules)
-    (λ c. let at = c in
-    let s = start at.before.before in
+    (λ c. let s = start c.before.before.before in
     settled-nan s.args.inputs.now _ _ _
-    (read-nan s.args.filling.now s.args.sizes.now s.args.inputs.now 1 _ at.ink-second.ensures (omega (arith, s.requires.0.0.inks-from, at.if-inputs-eq1.false)) c.in_default-second.is))
+    (read-nan s.args.filling.now s.args.sizes.now s.args.inputs.now 1 _ c.ink-second.ensures (omega (arith, s.requires.0.0.inks-from, c.if-inputs-eq1.false)) c.in_default-second.is))
     (λ c. (start (told c)).requires.1.1)
     (λ c. let s = start (told c.before) in sym (prefix-count s.args.m s.args.answer.now s.requires.1.1))
-    (λ c κs. let k = c.before in
-    let s = start (told k) in
-    (((pair-proper k).1.0.0, (pair-proper k).0.0, omega (arith, pair-reached k)), omega (arith, prefix-count s.args.m s.args.answer.now s.requires.1.1)))
+    (λ c κs. let s = start (told c.before) in
+    (((pair-proper c.before).1.0.0, (pair-proper c.before).0.0, omega (arith, pair-reached c.before)), omega (arith, prefix-count s.args.m s.args.answer.now s.requires.1.1)))
     (λ c. let s = start (told c.before.before.before.before) in
     prefix-length s.args.m s.args.answer.now c.two.new.out s.requires.1.1 (c.two.ensures.room ∙ prefix-count s.args.m s.args.answer.now s.requires.1.1))
-    (λ c. let k = c.before.before.before.before in given-done (start (told k)) 2 _ (two-read k) (both k) _ c.two.ensures))
+    (λ c. given-done (start (told c.before.before.before.before)) 2 _ (two-read c.before.before.before.before) (both c.before.before.before.before) _ c.two.ensures))

@@ -28,11 +28,10 @@ three_spec =
     (λ c κs. tt)
     (λ c κs. (c.requires.0, c.requires.1))
     (λ c. same-room _ _ _ _ c.three_each.ensures)
-    (λ c. let s = c in written-gives _ s.args.m s.args.out.now _ s.requires.1 c.three_each.ensures)
+    (λ c. written-gives _ c.args.m c.args.out.now _ c.requires.1 c.three_each.ensures)
     (λ c κs. ((start c).requires.0.0, (block c).1))
     (λ c κs. (omega arith, (start c.before.before).requires.1))
     (λ c. c.give.ensures.room)
-    (λ c. let k = c in
-    let s = start c.before.before.before.before.before in
+    (λ c. let s = start c.before.before.before.before.before in
     block-gives (λ o. tetra_of s.args.p o s.args.t.now) s.args.m s.args.out.now _ c.tetra4.result (block c.before.before.before.before.before).0 c.give.ensures
     (λ j h. lane-is _ (λ o. tetra_of s.args.p o s.args.t.now) c.tetra4.ensures j h)))

@@ -39,7 +39,7 @@ module _ (k : tie.In-At) where
 -- the second
 module _ (k : tie.In-At-second) where
   abbrev told : tie.In-At
-  told = k.before.before.before.before
+  told = k.before.before
 
   abbrev second : Cell
   second = k.in-At-second.d
@@ -50,7 +50,7 @@ module _ (k : tie.In-At-second) where
 -- and the third
 module _ (k : tie.In-At-third) where
   abbrev told2 : tie.In-At-second
-  told2 = k.before.before.before.before
+  told2 = k.before.before
 
   abbrev origin : tie.Start
   origin = start (told told2)
@@ -116,7 +116,7 @@ module _ (c : tie.After-plan_of-p) where
 -- and where the fourth input is a number too
 module _ (k : tie.In-At-fourth) where
   abbrev planned : tie.After-plan_of-p
-  planned = k.before.before.before.before.before.before.before.before
+  planned = k.before.before.before.before.before.before
 
   abbrev four : Cell
   four = k.in-At-fourth.h
@@ -131,7 +131,7 @@ module _ (k : tie.In-At-fourth) where
   four-read = read_more origin4.args.filling.now origin4.args.sizes.now origin4.args.inputs.now 3 _ k.ink-fourth.ensures (cube (told3 planned)) (three-read (told3 planned)) four k.in-At-fourth.is
 
   all-four : length origin4.args.inputs.now ≡ 4
-  all-four = omega (arith, origin4.requires.0.1, origin4.requires.0.2, k.if-inputs-eq3.left)
+  all-four = omega (arith, origin4.requires.0.1, origin4.requires.0.2, k.if-inputs-eq3.false)
 
   ordered : four.x ≤ four.x_n
   ordered = (cells-proper origin4.args.filling.now origin4.args.sizes.now origin4.args.inputs.now origin4.args.m origin4.requires.0.0 origin4.args.table.now origin4.requires.1.0 4 cells four-read.are (omega (arith, all-four))).0.0
@@ -200,30 +200,26 @@ three_or_four_spec =
     (λ c. search rules)
     (λ c. search rules)
     (λ c κs. tt)
-    (λ c. let call = c in
-    let s = c in
-    refused s c.tally.result c.tally.ensures.0 c.tally.ensures.1
-    (read-nan s.args.filling.now s.args.sizes.now s.args.inputs.now 0 _ call.ink-first.ensures s.requires.0.0.inks-from c.in_default.is))
+    (λ c. refused c.before.before.before.before.before.before c.tally.result c.tally.ensures.0 c.tally.ensures.1
+    (read-nan c.args.filling.now c.args.sizes.now c.args.inputs.now 0 _ c.ink-first.ensures c.requires.0.0.inks-from c.in_default.is))
     (λ c κs. (omega arith, omega (arith, (start c).requires.0.1)))
     (λ c. search rules)
     (λ c. search rules)
     (λ c κs. tt)
-    (λ c. let call = c in
-    let s = start call.before in
+    (λ c. let s = start c.before.before.before in
     refused s c.tally-in_default-second.result c.tally-in_default-second.ensures.0 c.tally-in_default-second.ensures.1
-    (read-nan s.args.filling.now s.args.sizes.now s.args.inputs.now 1 _ call.ink-second.ensures (omega (arith, s.requires.0.1)) c.in_default-second.is))
+    (read-nan s.args.filling.now s.args.sizes.now s.args.inputs.now 1 _ c.ink-second.ensures (omega (arith, s.requires.0.1)) c.in_default-second.is))
     (λ c κs. (omega arith, omega (arith, (start (told c)).requires.0.1)))
     (λ c. search rules)
     (λ c. search rules)
     (λ c κs. tt)
-    (λ c. let call = c in
-    let s = start (told call.before) in
+    (λ c. let s = start (told c.before.before.before) in
     refused s c.tally-in_default-third.result c.tally-in_default-third.ensures.0 c.tally-in_default-third.ensures.1
-    (read-nan s.args.filling.now s.args.sizes.now s.args.inputs.now 2 _ call.ink-third.ensures (omega (arith, s.requires.0.1)) c.in_default-third.is))
+    (read-nan s.args.filling.now s.args.sizes.now s.args.inputs.now 2 _ c.ink-third.ensures (omega (arith, s.requires.0.1)) c.in_default-third.is))
     (λ c. (proper c.before).1.1.0.0)
     (λ c. (proper c.before.before).1.0.0)
     (λ c. (proper c.before.before.before).0.0)
-    (λ c κs. let k = c in omega (arith, bytes k))
+    (λ c κs. omega (arith, bytes c.before.before.before))
     (λ c. omega (arith, reached c.before.before.before.before.before.before, bytes c.before.before.before.before.before.before))
     (λ c. omega (arith, reached c.before.before.before.before.before.before.before, bytes c.before.before.before.before.before.before.before))
     (λ c. omega (arith, reached c.before.before.before.before.before.before.before.before, bytes c.before.before.before.before.before.before.before.before))
@@ -232,48 +228,39 @@ three_or_four_spec =
     (λ c. omega (arith, reached c.before.before.before.before.before.before.before.before, bytes c.before.before.before.before.before.before.before.before))
     (λ c. (origin3 c.before.before.before.before.before).requires.1.1)
     (λ c. let s = origin3 c.before.before.before.before.before.before in sym (prefix-count s.args.m s.args.answer.now s.requires.1.1))
-    (λ c κs. let p = c in
-    let s = origin3 c.before.before.before.before.before.before in
-    ((near c.before.before.before.before.before.before, room p c.if-inputs-eq3.true), omega (arith, prefix-count s.args.m s.args.answer.now s.requires.1.1)))
+    (λ c κs. let s = origin3 c.before.before.before.before.before.before in
+    ((near c.before.before.before.before.before.before, room c.before.before.before.before.before.before c.if-inputs-eq3.true), omega (arith, prefix-count s.args.m s.args.answer.now s.requires.1.1)))
     (λ c κs. tt)
-    (λ c. let call = c in
-    let s = origin3 c.before.before.before.before.before.before.before.before.before.before in
-    prefix-length s.args.m s.args.answer.now call.three.new.out s.requires.1.1 (call.three.ensures.room ∙ prefix-count s.args.m s.args.answer.now s.requires.1.1))
-    (λ c. let call = c in
-    let p = c in
-    let is = call.if-inputs-eq3.true in (
-      settled-as _ _ _ _ 0 _ _ c.tally-then-inputs-eq3.ensures.0 (done p is _ call.three.ensures),
-      counts-as _ _ c.tally-then-inputs-eq3.result (reads p is) c.tally-then-inputs-eq3.ensures.1,
+    (λ c. let s = origin3 c.before.before.before.before.before.before.before.before.before.before in
+    prefix-length s.args.m s.args.answer.now c.three.new.out s.requires.1.1 (c.three.ensures.room ∙ prefix-count s.args.m s.args.answer.now s.requires.1.1))
+    (λ c. let is = c.if-inputs-eq3.true in (
+      settled-as _ _ _ _ 0 _ _ c.tally-then-inputs-eq3.ensures.0 (done c.before.before.before.before.before.before.before.before.before.before is _ c.three.ensures),
+      counts-as _ _ c.tally-then-inputs-eq3.result (reads c.before.before.before.before.before.before.before.before.before.before is) c.tally-then-inputs-eq3.ensures.1,
     ))
     (λ c κs. let s = origin c.before.before.before.before.before.before.before.before in (omega arith, omega (arith, s.requires.0.1, c.if-inputs-eq3.false)))
     (λ c. search rules)
     (λ c. search rules)
     (λ c κs. tt)
-    (λ c. let call = c in
-    let s = origin c.before.before.before.before.before.before.before.before.before.before.before.before in
+    (λ c. let s = origin c.before.before.before.before.before.before.before.before.before.before.before in
     refused s c.tally-in_default-fourth.result c.tally-in_default-fourth.ensures.0 c.tally-in_default-fourth.ensures.1
-    (read-nan s.args.filling.now s.args.sizes.now s.args.inputs.now 3 _ call.ink-fourth.ensures (omega (arith, s.requires.0.1, call.if-inputs-eq3.false)) c.in_default-fourth.is))
+    (read-nan s.args.filling.now s.args.sizes.now s.args.inputs.now 3 _ c.ink-fourth.ensures (omega (arith, s.requires.0.1, c.if-inputs-eq3.false)) c.in_default-fourth.is))
     (λ c κs. tt)
-    (λ c. let k = c in omega (arith, four-starts k, four_bytes k))
-    (λ c. let k = c in omega (arith, four-starts k, four_bytes k))
-    (λ c. let k = c in omega (arith, four-starts k, four_bytes k))
-    (λ c. let k = c in omega (arith, four-starts k, four_bytes k))
-    (λ c. let k = c in omega (arith, four-starts k, four_bytes k))
+    (λ c. omega (arith, four-starts c.before.before, four_bytes c.before.before))
+    (λ c. omega (arith, four-starts c.before.before, four_bytes c.before.before))
+    (λ c. omega (arith, four-starts c.before.before, four_bytes c.before.before))
+    (λ c. omega (arith, four-starts c.before.before, four_bytes c.before.before))
+    (λ c. omega (arith, four-starts c.before.before, four_bytes c.before.before))
     (λ c. ordered c.before.before.before.before)
     (λ c. (origin4 c.before.before.before.before).requires.1.1)
     (λ c. let s = origin4 c.before.before.before.before.before in sym (prefix-count s.args.m s.args.answer.now s.requires.1.1))
-    (λ c κs. let k = c in
-    let s = origin4 k in
-    ((near (planned k), four-room k), omega (arith, prefix-count s.args.m s.args.answer.now s.requires.1.1)))
-    (λ c. let p = c in omega (arith, placed p))
-    (λ c κs. let p = c in (omega arith, omega (arith, placed p)))
+    (λ c κs. let s = origin4 c.before.before.before.before.before in
+    ((near (planned c.before.before.before.before.before), four-room c.before.before.before.before.before), omega (arith, prefix-count s.args.m s.args.answer.now s.requires.1.1)))
+    (λ c. omega (arith, placed c.before.before.before.before.before.before.before))
+    (λ c κs. (omega arith, omega (arith, placed c.before.before.before.before.before.before.before)))
     (λ c κs. tt)
-    (λ c. let call = c in
-    let s = origin4 call.before.before.before.before.before.before in
-    prefix-length s.args.m s.args.answer.now call.four.new.out s.requires.1.1 (call.four.ensures.room ∙ prefix-count s.args.m s.args.answer.now s.requires.1.1))
-    (λ c. let call = c in
-    let p = c in
-    let k = c in (
-      settled-as _ _ _ _ 0 _ _ c.tally-2.ensures.0 (four-done k p.places-places.result p.places-places.ensures _ call.four.ensures),
-      counts-as _ _ c.tally-2.result (c.reads_of.ensures ∙ four-reads k p.places-places.result p.places-places.ensures) c.tally-2.ensures.1,
+    (λ c. let s = origin4 c.before.before.before.before.before.before.before.before.before.before in
+    prefix-length s.args.m s.args.answer.now c.four.new.out s.requires.1.1 (c.four.ensures.room ∙ prefix-count s.args.m s.args.answer.now s.requires.1.1))
+    (λ c. (
+      settled-as _ _ _ _ 0 _ _ c.tally-2.ensures.0 (four-done c.before.before.before.before.before.before.before.before.before.before c.places-places.result c.places-places.ensures _ c.four.ensures),
+      counts-as _ _ c.tally-2.result (c.reads_of.ensures ∙ four-reads c.before.before.before.before.before.before.before.before.before.before c.places-places.result c.places-places.ensures) c.tally-2.ensures.1,
     )))

@@ -35,23 +35,22 @@ two_spec =
     (λ c. omega arith)
     (λ c. omega arith)
     (λ c κs. tt)
-    (λ c κs. let s = c in (omega (arith, s.requires.0.0, s.requires.0.1, s.requires.0.2), s.requires.1))
+    (λ c κs. (omega (arith, c.requires.0.0, c.requires.0.1, c.requires.0.2), c.requires.1))
     (λ c. same-room _ _ _ _ c.two_each.ensures)
-    (λ c. let s = c in written-gives _ s.args.m s.args.out.now _ s.requires.1 c.two_each.ensures)
-    (λ c. let k = c in omega (arith, (block c.before.before).1, bytes c.before.before, (start c.before.before).requires.0.0, (start c.before.before).requires.0.1))
-    (λ c κs. let k = c in omega (arith, (block c.before.before).1, (start c.before.before).requires.0.0, (start c.before.before).requires.0.1))
-    (λ c. let k = c in omega (arith, (block c.before.before.before.before.before).1, bytes c.before.before.before.before.before, (start c.before.before.before.before.before).requires.0.0, (start c.before.before.before.before.before).requires.0.1))
-    (λ c κs. let k = c in omega (arith, (block c.before.before.before.before.before).1, (start c.before.before.before.before.before).requires.0.0, (start c.before.before.before.before.before).requires.0.1))
+    (λ c. written-gives _ c.args.m c.args.out.now _ c.requires.1 c.two_each.ensures)
+    (λ c. omega (arith, (block c.before.before).1, bytes c.before.before, (start c.before.before).requires.0.0, (start c.before.before).requires.0.1))
+    (λ c κs. omega (arith, (block c.before.before).1, (start c.before.before).requires.0.0, (start c.before.before).requires.0.1))
+    (λ c. omega (arith, (block c.before.before.before.before.before).1, bytes c.before.before.before.before.before, (start c.before.before.before.before.before).requires.0.0, (start c.before.before.before.before.before).requires.0.1))
+    (λ c κs. omega (arith, (block c.before.before.before.before.before).1, (start c.before.before.before.before.before).requires.0.0, (start c.before.before.before.before.before).requires.0.1))
     (λ c κs. tt)
-    (λ c. let k = c in omega (arith, (block c.before.before.before.before.before.before.before.before.before).1, bytes c.before.before.before.before.before.before.before.before.before, (start c.before.before.before.before.before.before.before.before.before).requires.0.0, (start c.before.before.before.before.before.before.before.before.before).requires.0.1))
-    (λ c κs. let k = c in omega (arith, (block c.before.before.before.before.before.before.before.before.before).1, (start c.before.before.before.before.before.before.before.before.before).requires.0.0, (start c.before.before.before.before.before.before.before.before.before).requires.0.1))
-    (λ c κs. let k = c in omega (arith, (block c.before.before.before.before.before.before.before.before.before.before).1, (start c.before.before.before.before.before.before.before.before.before.before).requires.0.0, (start c.before.before.before.before.before.before.before.before.before.before).requires.0.1))
+    (λ c. omega (arith, (block c.before.before.before.before.before.before.before.before.before).1, bytes c.before.before.before.before.before.before.before.before.before, (start c.before.before.before.before.before.before.before.before.before).requires.0.0, (start c.before.before.before.before.before.before.before.before.before).requires.0.1))
+    (λ c κs. omega (arith, (block c.before.before.before.before.before.before.before.before.before).1, (start c.before.before.before.before.before.before.before.before.before).requires.0.0, (start c.before.before.before.before.before.before.before.before.before).requires.0.1))
+    (λ c κs. omega (arith, (block c.before.before.before.before.before.before.before.before.before.before).1, (start c.before.before.before.before.before.before.before.before.before.before).requires.0.0, (start c.before.before.before.before.before.before.before.before.before.before).requires.0.1))
     (λ c κs. tt)
     (λ c κs. tt)
     (λ c κs. (omega arith, (start c.before.before.before.before.before.before.before.before.before.before.before.before.before.before).requires.1))
     (λ c. c.give.ensures.room)
-    (λ c. let k = c in
-    let s = start c.before.before.before.before.before.before.before.before.before.before.before.before.before.before.before.before.before in
+    (λ c. let s = start c.before.before.before.before.before.before.before.before.before.before.before.before.before.before.before.before.before in
     block-gives (answer s.args.part.now (s.args.d ∷ s.args.c ∷ [])) s.args.m s.args.out.now _ c.along4.result (block c.before.before.before.before.before.before.before.before.before.before.before.before.before.before.before.before.before).0 c.give.ensures
     (λ j h. lane-is _ (λ i. along (lane c.along4-below.result i) (lane c.along4-above.result i) s.args.d.w) c.along4.ensures j h
     ∙ ap₂ (λ (x y : Float). along x y s.args.d.w)

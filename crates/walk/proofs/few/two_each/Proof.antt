@@ -68,9 +68,8 @@ two_each_spec =
     (λ c. (turn c.before.before.before.before.before.before.before).next)
     (λ c. (turn c.before.before.before.before.before.before.before).fewer)
     (λ c. let l = c.loop-o in
-    let s = c in
     turned_more _ _ _ _ _ l.invariant c.loop-o-test.true _
-    (c.along.ensures ∙ ap₂ (λ (a b : Float). along a b s.args.d.w) c.along-below.ensures c.along-above.ensures
-    ∙ two-inks s.args.part.now l.o s.args.c s.args.d))
+    (c.along.ensures ∙ ap₂ (λ (a b : Float). along a b c.args.d.w) c.along-below.ensures c.along-above.ensures
+    ∙ two-inks c.args.part.now l.o c.args.c c.args.d))
     (λ c. c.loop-o.invariant.room)
     (λ c. turned-all _ _ _ _ _ c.loop-o.invariant c.loop-o-test.false))

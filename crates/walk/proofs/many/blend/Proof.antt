@@ -9,19 +9,13 @@ blend_spec =
     tie.close
     (tie.spec
     (λ c. omega arith)
-    (λ c κs. let s = c in
-    ((omega arith, s.requires.0.2, s.requires.1.0), (reach-as _ _ s.args.m _ (inks-on s.args.step.now s.args.w.now 3 s.args.n s.requires.0.0) s.requires.1.1.0, s.requires.1.1.1)))
+    (λ c κs. ((omega arith, c.requires.0.2, c.requires.1.0), (reach-as _ _ c.args.m _ (inks-on c.args.step.now c.args.w.now 3 c.args.n c.requires.0.0) c.requires.1.1.0, c.requires.1.1.1)))
     (λ c. c.small.ensures.room)
-    (λ c. let s = c in
-    gives_as s.args.t.now _ _ s.args.m _ _ (inks-on s.args.step.now s.args.w.now 3 s.args.n s.requires.0.0) c.small.ensures)
-    (λ c κs. let s = c in
-    ((omega arith, s.requires.0.2, s.requires.1.0), (reach-as _ _ s.args.m _ (inks-on s.args.step.now s.args.w.now 3 s.args.n s.requires.0.0) s.requires.1.1.0, s.requires.1.1.1)))
+    (λ c. gives_as c.args.t.now _ _ c.args.m _ _ (inks-on c.args.step.now c.args.w.now 3 c.args.n c.requires.0.0) c.small.ensures)
+    (λ c κs. ((omega arith, c.requires.0.2, c.requires.1.0), (reach-as _ _ c.args.m _ (inks-on c.args.step.now c.args.w.now 3 c.args.n c.requires.0.0) c.requires.1.1.0, c.requires.1.1.1)))
     (λ c. c.large.ensures.room)
-    (λ c. let s = c in
-    gives_as s.args.t.now _ _ s.args.m _ _ (inks-on s.args.step.now s.args.w.now 3 s.args.n s.requires.0.0) c.large.ensures)
+    (λ c. gives_as c.args.t.now _ _ c.args.m _ _ (inks-on c.args.step.now c.args.w.now 3 c.args.n c.requires.0.0) c.large.ensures)
     (λ c. omega arith)
-    (λ c κs. let s = c in
-    ((omega (arith, s.requires.0.1), s.requires.0.2, s.requires.1.0), (reach-as _ _ s.args.m _ (inks-on s.args.step.now s.args.w.now 9 s.args.n (omega arith)) s.requires.1.1.0, s.requires.1.1.1)))
+    (λ c κs. ((omega (arith, c.requires.0.1), c.requires.0.2, c.requires.1.0), (reach-as _ _ c.args.m _ (inks-on c.args.step.now c.args.w.now 9 c.args.n (omega arith)) c.requires.1.1.0, c.requires.1.1.1)))
     (λ c. c.highest.ensures.room)
-    (λ c. let s = c in
-    gives_as s.args.t.now _ _ s.args.m _ _ (inks-on s.args.step.now s.args.w.now 9 s.args.n (omega arith)) c.highest.ensures))
+    (λ c. gives_as c.args.t.now _ _ c.args.m _ _ (inks-on c.args.step.now c.args.w.now 9 c.args.n (omega arith)) c.highest.ensures))

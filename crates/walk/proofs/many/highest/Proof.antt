@@ -14,6 +14,6 @@ highest_spec =
     (λ c. search rules)
     (λ c. search rules)
     (λ c. search rules)
-    (λ c κs. let s = c in ((omega (arith, s.requires.0.0), s.requires.0.1, s.requires.0.2), (s.requires.1.0, ((omega arith, omega arith), (corners-fit 6 s.args.j s.requires.0.0, blocks-fit 6 s.args.j s.requires.0.0, s.requires.1.1)))))
+    (λ c κs. ((omega (arith, c.requires.0.0), c.requires.0.1, c.requires.0.2), (c.requires.1.0, ((omega arith, omega arith), (corners-fit 6 c.args.j c.requires.0.0, blocks-fit 6 c.args.j c.requires.0.0, c.requires.1.1)))))
     (λ c. c.tower.ensures.room)
     (λ c. c.tower.ensures))

@@ -23,7 +23,7 @@ use Rattle.walk.proofs.many.many.Tie as tie
 -- all inputs are numbers
 module _ (k : tie.In-At) where
   abbrev call : tie.After-cells-lowest
-  call = k.before.before.before
+  call = k.before
 
   abbrev start : tie.Start
   start = call.before.before.before.before.before.before
@@ -35,10 +35,10 @@ module _ (k : tie.In-At) where
   inks = first_inks start.args.filling.now start.args.sizes.now inputs (length inputs)
 
   abbrev step : List ℕ
-  step = call.cells-lowest.last.1.1.1.0
+  step = call.cells-lowest.new.step
 
   abbrev w : List Float
-  w = call.cells-lowest.last.1.1.1.1.0
+  w = call.cells-lowest.new.w
 
   abbrev at : ℕ
   at = k.in-At.at
@@ -67,7 +67,7 @@ module _ (q : tie.After-keep-n) where
   step' = q.keep-n.new.step
 
   abbrev w' : List Float
-  w' = q.keep-n.new.w.0
+  w' = q.keep-n.new.w
 
   are : steps_at step' w' 0 q.keep-n.result ≡ kept_at skip (step known) (w known) (length (inputs known))
   are = q.keep-n.ensures.0
@@ -103,35 +103,29 @@ pub many_spec : {M : Type 1} → statement M
 many_spec =
     tie.close
     (tie.spec
-    (λ c κs. let s = c in
-    (s.requires.0.0.inks-to, (s.requires.0.0.narrow, (omega (arith, cells-reach s.args.filling.now s.args.sizes.now s.args.inputs.now s.args.m s.requires.0.0 s.args.table.now s.requires.1.0 (length s.args.inputs.now) _ refl (omega arith)), (refl, refl)))))
+    (λ c κs. (c.requires.0.0.inks-to, (c.requires.0.0.narrow, (omega (arith, cells-reach c.args.filling.now c.args.sizes.now c.args.inputs.now c.args.m c.requires.0.0 c.args.table.now c.requires.1.0 (length c.args.inputs.now) _ refl (omega arith)), (refl, refl)))))
     (λ c. search rules)
     (λ c. search rules)
     (λ c κs. tt)
-    (λ c. let call = c in (
-      settled-as _ _ _ _ 16 _ _ c.tally.ensures.0 (settled-nan _ _ _ _ (told-nan _ _ _ call.cells-lowest.ensures.0 c.in_default.is)),
+    (λ c. (
+      settled-as _ _ _ _ 16 _ _ c.tally.ensures.0 (settled-nan _ _ _ _ (told-nan _ _ _ c.cells-lowest.ensures.0 c.in_default.is)),
       refused-counts _ c.tally.result 16 c.tally.ensures.0 (λ z. omega arith) c.tally.ensures.1,
     ))
-    (λ c κs. let k = c.before.before in
-    let s = start k in
-    (s.requires.0.1, s.requires.0.0.inks-to, (call k).cells-lowest.ensures.1.1.0, (call k).cells-lowest.ensures.1.1.1))
+    (λ c κs. let s = start c.before.before in
+    (s.requires.0.1, s.requires.0.0.inks-to, (call c.before.before).cells-lowest.ensures.1.1.0, (call c.before.before).cells-lowest.ensures.1.1.1))
     (λ c. omega (arith, starts (known c)))
     (λ c. omega (arith, starts (known c)))
     (λ c. omega (arith, starts (known c)))
     (λ c. omega (arith, starts (known c)))
     (λ c. (origin c.before.before.before).requires.1.1)
     (λ c. let s = origin c.before.before.before.before in sym (prefix-count s.args.m s.args.answer.now s.requires.1.1))
-    (λ c κs. let q = c.before.before.before.before in
-    let s = origin q in
-    ((q.keep-n.ensures.1.0, omega (arith, q.keep-n.ensures.1.1, s.requires.0.0.inks-to), s.requires.0.0.outputs-to), ((λ i h. weights q i (omega (arith, q.keep-n.ensures.1.0))), (reached q, omega (arith, prefix-count s.args.m s.args.answer.now s.requires.1.1)))))
-    (λ c κs. let q = c.before.before.before.before.before.before.before in
-    (q.keep-n.ensures.1.0, omega (arith, q.keep-n.ensures.1.1, (origin q).requires.0.0.inks-to)))
+    (λ c κs. let s = origin c.before.before.before.before in
+    ((c.keep-n.ensures.1.0, omega (arith, c.keep-n.ensures.1.1, s.requires.0.0.inks-to), s.requires.0.0.outputs-to), ((λ i h. weights c.before.before.before.before i (omega (arith, c.keep-n.ensures.1.0))), (reached c.before.before.before.before, omega (arith, prefix-count s.args.m s.args.answer.now s.requires.1.1)))))
+    (λ c κs. (c.keep-n.ensures.1.0, omega (arith, c.keep-n.ensures.1.1, (origin c.before.before.before.before.before.before.before).requires.0.0.inks-to)))
     (λ c κs. tt)
-    (λ c. let blended = c in
-    let s = origin blended.before.before.before.before.before in
-    prefix-length s.args.m s.args.answer.now blended.blend.new.out s.requires.1.1 (blended.blend.ensures.room ∙ prefix-count s.args.m s.args.answer.now s.requires.1.1))
-    (λ c. let blended = c in
-    let q = blended.before.before.before.before.before in (
-      settled-as _ _ _ _ 0 _ _ c.tally-2.ensures.0 (done q _ blended.blend.ensures),
-      counts-as _ _ c.tally-2.result (c.reads_of.ensures ∙ counted q) c.tally-2.ensures.1,
+    (λ c. let s = origin c.before.before.before.before.before.before.before.before.before in
+    prefix-length s.args.m s.args.answer.now c.blend.new.out s.requires.1.1 (c.blend.ensures.room ∙ prefix-count s.args.m s.args.answer.now s.requires.1.1))
+    (λ c. (
+      settled-as _ _ _ _ 0 _ _ c.tally-2.ensures.0 (done c.before.before.before.before.before.before.before.before.before _ c.blend.ensures),
+      counts-as _ _ c.tally-2.result (c.reads_of.ensures ∙ counted c.before.before.before.before.before.before.before.before.before) c.tally-2.ensures.1,
     )))

@@ -30,24 +30,22 @@ outer_spec =
     (λ c. omega arith)
     (λ c. omega arith)
     (λ c. omega (arith, c.loop-c-test.true, c.requires.0.3))
-    (λ c. let s = c in omega (arith, top-inside s.args.step.now s.args.w.now s.args.e s.args.j s.args.tops.now s.requires.1.1.1.1 s.args.count s.args.left (length s.args.t.now) s.requires.0.1 s.requires.1.1.0 c.loop-c.c c.loop-c-test.true))
-    (λ c. let s = c in omega (arith, top-inside s.args.step.now s.args.w.now s.args.e s.args.j s.args.tops.now s.requires.1.1.1.1 s.args.count s.args.left (length s.args.t.now) s.requires.0.1 s.requires.1.1.0 c.loop-c.c c.loop-c-test.true))
-    (λ c. let s = c in omega (arith, top-inside s.args.step.now s.args.w.now s.args.e s.args.j s.args.tops.now s.requires.1.1.1.1 s.args.count s.args.left (length s.args.t.now) s.requires.0.1 s.requires.1.1.0 c.loop-c.c c.loop-c-test.true))
-    (λ c. let s = c in omega (arith, top-inside s.args.step.now s.args.w.now s.args.e s.args.j s.args.tops.now s.requires.1.1.1.1 s.args.count s.args.left (length s.args.t.now) s.requires.0.1 s.requires.1.1.0 c.loop-c.c c.loop-c-test.true))
-    (λ c κs. let s = c in ((omega (arith, s.requires.0.0), s.requires.1.0.0, s.requires.1.0.1, omega (arith, s.requires.1.0.2, c.loop-c.invariant.1)), (rw from-length (omega (arith, top-inside s.args.step.now s.args.w.now s.args.e s.args.j s.args.tops.now s.requires.1.1.1.1 s.args.count s.args.left (length s.args.t.now) s.requires.0.1 s.requires.1.1.0 c.loop-c.c c.loop-c-test.true)), s.requires.1.1.1.0)))
+    (λ c. omega (arith, top-inside c.args.step.now c.args.w.now c.args.e c.args.j c.args.tops.now c.requires.1.1.1.1 c.args.count c.args.left (length c.args.t.now) c.requires.0.1 c.requires.1.1.0 c.loop-c.c c.loop-c-test.true))
+    (λ c. omega (arith, top-inside c.args.step.now c.args.w.now c.args.e c.args.j c.args.tops.now c.requires.1.1.1.1 c.args.count c.args.left (length c.args.t.now) c.requires.0.1 c.requires.1.1.0 c.loop-c.c c.loop-c-test.true))
+    (λ c. omega (arith, top-inside c.args.step.now c.args.w.now c.args.e c.args.j c.args.tops.now c.requires.1.1.1.1 c.args.count c.args.left (length c.args.t.now) c.requires.0.1 c.requires.1.1.0 c.loop-c.c c.loop-c-test.true))
+    (λ c. omega (arith, top-inside c.args.step.now c.args.w.now c.args.e c.args.j c.args.tops.now c.requires.1.1.1.1 c.args.count c.args.left (length c.args.t.now) c.requires.0.1 c.requires.1.1.0 c.loop-c.c c.loop-c-test.true))
+    (λ c κs. ((omega (arith, c.requires.0.0), c.requires.1.0.0, c.requires.1.0.1, omega (arith, c.requires.1.0.2, c.loop-c.invariant.1)), (rw from-length (omega (arith, top-inside c.args.step.now c.args.w.now c.args.e c.args.j c.args.tops.now c.requires.1.1.1.1 c.args.count c.args.left (length c.args.t.now) c.requires.0.1 c.requires.1.1.0 c.loop-c.c c.loop-c-test.true)), c.requires.1.1.1.0)))
     (λ c κs. omega (arith, c.loop-c-test.true, c.requires.0.3, c.loop-c.invariant.2.room))
     (λ c. omega (arith, c.loop-c-test.true))
     (λ c. omega (arith, c.loop-c-test.true))
-    (λ c. let s = c in
-    let l = c.loop-c in
-    (omega (arith, c.loop-c-test.true), c.inner.ensures.1 ∙ l.invariant.1, cornered-more (λ o. above (tetra_of (first_three s.args.step.now s.args.w.now) o) (steps_at s.args.step.now s.args.w.now 3 s.args.e)) s.args.tops.now s.args.t.now s.args.left s.args.high.now l.high l.c l.invariant.2 _ _ (omega (arith, c.loop-c-test.true, s.requires.0.3)) c.inner.ensures.0 c.put.ensures))
+    (λ c. let l = c.loop-c in
+    (omega (arith, c.loop-c-test.true), c.inner.ensures.1 ∙ l.invariant.1, cornered-more (λ o. above (tetra_of (first_three c.args.step.now c.args.w.now) o) (steps_at c.args.step.now c.args.w.now 3 c.args.e)) c.args.tops.now c.args.t.now c.args.left c.args.high.now l.high l.c l.invariant.2 _ _ (omega (arith, c.loop-c-test.true, c.requires.0.3)) c.inner.ensures.0 c.put.ensures))
     (λ c. omega arith)
-    (λ c κs. let s = c in (s.requires.0.0, s.requires.0.1, omega (arith, s.requires.0.3, c.loop-c.invariant.2.room)))
-    (λ c κs. let s = c in omega (arith, s.requires.0.3, s.requires.0.1, one-le-pow s.args.j 2 (zero-lt-suc 1), c.folds.ensures.room, c.loop-c.invariant.2.room))
+    (λ c κs. (c.requires.0.0, c.requires.0.1, omega (arith, c.requires.0.3, c.loop-c.invariant.2.room)))
+    (λ c κs. omega (arith, c.requires.0.3, c.requires.0.1, one-le-pow c.args.j 2 (zero-lt-suc 1), c.folds.ensures.room, c.loop-c.invariant.2.room))
     (λ c. c.loop-c.invariant.1)
     (λ c. c.folds.ensures.room ∙ c.loop-c.invariant.2.room)
-    (λ c. let s = c in
-    let l = c.loop-c in
-    let all : l.c ≡ s.args.count = omega (arith, l.invariant.0, c.loop-c-test.false) in
-    let cornered = subst (λ (n : ℕ). Cornered (λ o. above (tetra_of (first_three s.args.step.now s.args.w.now) o) (steps_at s.args.step.now s.args.w.now 3 s.args.e)) s.args.tops.now s.args.t.now s.args.left n s.args.high.now l.high) all l.invariant.2 in
-    (folded-block (λ o. above (tetra_of (first_three s.args.step.now s.args.w.now) o) (steps_at s.args.step.now s.args.w.now 3 s.args.e)) s.args.step.now s.args.w.now (s.args.e + 3) s.args.j s.args.tops.now s.requires.1.1.1.1 s.args.count s.requires.0.1 s.args.t.now s.args.left _ _ _ cornered c.folds.ensures _ c.load.ensures, (l.invariant.1, c.folds.ensures.room ∙ l.invariant.2.room))))
+    (λ c. let l = c.loop-c in
+    let all : l.c ≡ c.args.count = omega (arith, l.invariant.0, c.loop-c-test.false) in
+    let cornered = subst (λ (n : ℕ). Cornered (λ o. above (tetra_of (first_three c.args.step.now c.args.w.now) o) (steps_at c.args.step.now c.args.w.now 3 c.args.e)) c.args.tops.now c.args.t.now c.args.left n c.args.high.now l.high) all l.invariant.2 in
+    (folded-block (λ o. above (tetra_of (first_three c.args.step.now c.args.w.now) o) (steps_at c.args.step.now c.args.w.now 3 c.args.e)) c.args.step.now c.args.w.now (c.args.e + 3) c.args.j c.args.tops.now c.requires.1.1.1.1 c.args.count c.requires.0.1 c.args.t.now c.args.left _ _ _ cornered c.folds.ensures _ c.load.ensures, (l.invariant.1, c.folds.ensures.room ∙ l.invariant.2.room))))

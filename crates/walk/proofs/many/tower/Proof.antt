@@ -25,37 +25,34 @@ tower_spec =
     (tie.spec
     invariant-loop
     decreases-loop
-    (λ c κs. let s = c in ((omega (arith, s.requires.0.0), s.requires.1.1.0.0), omega (arith, s.requires.1.0, inks-reach s.args.step.now s.args.w.now s.args.e, tower-reach s.args.step.now s.args.w.now s.args.e s.args.j, reach-any s.args.step.now [] s.args.w.now 3 s.args.e)))
+    (λ c κs. ((omega (arith, c.requires.0.0), c.requires.1.1.0.0), omega (arith, c.requires.1.0, inks-reach c.args.step.now c.args.w.now c.args.e, tower-reach c.args.step.now c.args.w.now c.args.e c.args.j, reach-any c.args.step.now [] c.args.w.now 3 c.args.e)))
     (λ c. omega arith)
-    (λ c κs. let s = c in ((s.requires.0.0, s.requires.1.1.1.0), omega (arith, s.requires.1.0, inks-reach s.args.step.now s.args.w.now s.args.e, tower-reach s.args.step.now s.args.w.now s.args.e s.args.j, reach-any s.args.step.now [] s.args.w.now (s.args.e + 3) s.args.j)))
+    (λ c κs. ((c.requires.0.0, c.requires.1.1.1.0), omega (arith, c.requires.1.0, inks-reach c.args.step.now c.args.w.now c.args.e, tower-reach c.args.step.now c.args.w.now c.args.e c.args.j, reach-any c.args.step.now [] c.args.w.now (c.args.e + 3) c.args.j)))
     (λ c. (refl, refl, upto-none _ _ _))
     (λ c. omega (arith, c.loop-o-test.true, c.requires.1.0))
     (λ c. omega (arith, c.loop-o-test.true, c.requires.1.0))
     (λ c. omega (arith, c.loop-o-test.true, c.requires.1.0))
     (λ c. omega (arith, c.loop-o-test.true, c.requires.1.0))
     (λ c. omega (arith, c.loop-o-test.true))
-    (λ c κs. let s = c in
-    let d = c.distances-corners in
+    (λ c κs. let d = c.distances-corners in
     let u = c.distances-count in
     let l = c.loop-o in (
-      (s.requires.0.0, u.ensures.0, omega (arith, u.ensures.0, u.ensures.1.room, s.requires.1.1.1.0), omega (arith, u.ensures.0, l.invariant.1, s.requires.1.1.1.1)),
+      (c.requires.0.0, u.ensures.0, omega (arith, u.ensures.0, u.ensures.1.room, c.requires.1.1.1.0), omega (arith, u.ensures.0, l.invariant.1, c.requires.1.1.1.1)),
       (
-        (d.ensures.0, omega (arith, d.ensures.0, d.ensures.1.room, s.requires.1.1.0.0), omega (arith, d.ensures.0, l.invariant.0, s.requires.1.1.0.1)),
-        (rw from-length (omega (arith, c.loop-o-test.true, s.requires.1.0)), (d.ensures.1.stand, u.ensures.1.stand)),
+        (d.ensures.0, omega (arith, d.ensures.0, d.ensures.1.room, c.requires.1.1.0.0), omega (arith, d.ensures.0, l.invariant.0, c.requires.1.1.0.1)),
+        (rw from-length (omega (arith, c.loop-o-test.true, c.requires.1.0)), (d.ensures.1.stand, u.ensures.1.stand)),
       ),
     ))
     (λ c κs. (omega (arith, c.loop-o-test.true), omega (arith, c.requires.1.1.1.2, c.loop-o.invariant.2.room)))
     (λ c. omega (arith, c.loop-o-test.true, c.requires.0.1))
     (λ c. omega (arith, c.loop-o-test.true))
-    (λ c. let s = c in
-    let l = c.loop-o in
+    (λ c. let l = c.loop-o in
     let f = c.outer-f in
-    (f.ensures.1.0 ∙ l.invariant.0, f.ensures.1.1 ∙ l.invariant.1, upto-more (answer s.args.t.now (steps_at s.args.step.now s.args.w.now 0 (s.args.j + (s.args.e + 3)))) s.args.m s.args.out.now l.o l.out _ (lane f.result) l.invariant.2 c.loop-o-test.true c.give.ensures (tower-given s.args.step.now s.args.w.now s.args.e s.args.j s.requires.0.2 s.args.t.now l.o s.args.m f.result f.ensures.0)))
+    (f.ensures.1.0 ∙ l.invariant.0, f.ensures.1.1 ∙ l.invariant.1, upto-more (answer c.args.t.now (steps_at c.args.step.now c.args.w.now 0 (c.args.j + (c.args.e + 3)))) c.args.m c.args.out.now l.o l.out _ (lane f.result) l.invariant.2 c.loop-o-test.true c.give.ensures (tower-given c.args.step.now c.args.w.now c.args.e c.args.j c.requires.0.2 c.args.t.now l.o c.args.m f.result f.ensures.0)))
     (λ c. c.distances-corners.ensures.1.room)
     (λ c. c.distances-count.ensures.1.room)
     (λ c. c.loop-o.invariant.0)
     (λ c. c.loop-o.invariant.1)
     (λ c. c.loop-o.invariant.2.room)
-    (λ c. let s = c in
-    let l = c.loop-o in
-    upto_all (answer s.args.t.now (steps_at s.args.step.now s.args.w.now 0 (s.args.j + (s.args.e + 3)))) s.args.m s.args.out.now l.o l.out l.invariant.2 c.loop-o-test.false))
+    (λ c. let l = c.loop-o in
+    upto_all (answer c.args.t.now (steps_at c.args.step.now c.args.w.now 0 (c.args.j + (c.args.e + 3)))) c.args.m c.args.out.now l.o l.out l.invariant.2 c.loop-o-test.false))

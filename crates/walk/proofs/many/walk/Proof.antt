@@ -25,26 +25,23 @@ walk_spec =
     (tie.spec
     invariant-loop
     decreases-loop
-    (λ c κs. let s = c in ((omega (arith, s.requires.0.0), s.requires.1.1.0), omega (arith, s.requires.1.0, inks-reach s.args.step.now s.args.w.now s.args.k, reach-any s.args.step.now [] s.args.w.now 3 s.args.k)))
+    (λ c κs. ((omega (arith, c.requires.0.0), c.requires.1.1.0), omega (arith, c.requires.1.0, inks-reach c.args.step.now c.args.w.now c.args.k, reach-any c.args.step.now [] c.args.w.now 3 c.args.k)))
     (λ c. (refl, upto-none _ _ _))
     (λ c. omega (arith, c.loop-o-test.true, c.requires.1.0))
     (λ c. omega (arith, c.loop-o-test.true, c.requires.1.0))
     (λ c. omega (arith, c.loop-o-test.true, c.requires.1.0))
     (λ c. omega (arith, c.loop-o-test.true, c.requires.1.0))
     (λ c. omega (arith, c.loop-o-test.true))
-    (λ c κs. let s = c in
-    let d = c.distances-count in
-    ((omega (arith, s.requires.0.0), d.ensures.0, omega (arith, d.ensures.0, d.ensures.1.room, s.requires.1.1.0), omega (arith, d.ensures.0, c.loop-o.invariant.0, s.requires.1.1.1)), (rw from-length (omega (arith, c.loop-o-test.true, s.requires.1.0)), d.ensures.1.stand)))
+    (λ c κs. let d = c.distances-count in
+    ((omega (arith, c.requires.0.0), d.ensures.0, omega (arith, d.ensures.0, d.ensures.1.room, c.requires.1.1.0), omega (arith, d.ensures.0, c.loop-o.invariant.0, c.requires.1.1.1)), (rw from-length (omega (arith, c.loop-o-test.true, c.requires.1.0)), d.ensures.1.stand)))
     (λ c κs. (omega (arith, c.loop-o-test.true), omega (arith, c.requires.1.1.2, c.loop-o.invariant.1.room)))
     (λ c. omega (arith, c.loop-o-test.true, c.requires.0.1))
     (λ c. omega (arith, c.loop-o-test.true))
-    (λ c. let s = c in
-    let l = c.loop-o in
+    (λ c. let l = c.loop-o in
     let f = c.inner in
-    (f.ensures.1 ∙ l.invariant.0, upto-more (answer s.args.t.now (steps_at s.args.step.now s.args.w.now 0 (s.args.k + 3))) s.args.m s.args.out.now l.o l.out _ (lane f.result) l.invariant.1 c.loop-o-test.true c.give.ensures (inks-given s.args.step.now s.args.w.now s.requires.0.2 s.args.k s.args.t.now l.o s.args.m f.result f.ensures.0)))
+    (f.ensures.1 ∙ l.invariant.0, upto-more (answer c.args.t.now (steps_at c.args.step.now c.args.w.now 0 (c.args.k + 3))) c.args.m c.args.out.now l.o l.out _ (lane f.result) l.invariant.1 c.loop-o-test.true c.give.ensures (inks-given c.args.step.now c.args.w.now c.requires.0.2 c.args.k c.args.t.now l.o c.args.m f.result f.ensures.0)))
     (λ c. c.distances-count.ensures.1.room)
     (λ c. c.loop-o.invariant.0)
     (λ c. c.loop-o.invariant.1.room)
-    (λ c. let s = c in
-    let l = c.loop-o in
-    upto_all (answer s.args.t.now (steps_at s.args.step.now s.args.w.now 0 (s.args.k + 3))) s.args.m s.args.out.now l.o l.out l.invariant.1 c.loop-o-test.false))
+    (λ c. let l = c.loop-o in
+    upto_all (answer c.args.t.now (steps_at c.args.step.now c.args.w.now 0 (c.args.k + 3))) c.args.m c.args.out.now l.o l.out l.invariant.1 c.loop-o-test.false))

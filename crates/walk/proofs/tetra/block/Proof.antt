@@ -14,8 +14,8 @@ pub block_spec : {M : Type 1} → statement M
 block_spec =
     tie.close
     (tie.spec
-    (λ c. let s = c in omega (arith, s.requires.1, far-first _ s.args.step.now s.args.w.now s.requires.0))
-    (λ c κs. let s = c in (near_first _ s.args.step.now s.args.w.now s.requires.0, omega (arith, c.if-t-p-ge4.true, s.requires.1, far-first _ s.args.step.now s.args.w.now s.requires.0)))
-    (λ c o h less. let s = c in ap (λ (f : Four). lane f o) c.tetra4.ensures ∙ lane_of (λ k. tetra_of s.args.p k s.args.t.now) o h ∙ ap (λ (q : Plan). tetra_of q o s.args.t.now) s.requires.0)
+    (λ c. omega (arith, c.requires.1, far-first _ c.args.step.now c.args.w.now c.requires.0))
+    (λ c κs. (near_first _ c.args.step.now c.args.w.now c.requires.0, omega (arith, c.if-t-p-ge4.true, c.requires.1, far-first _ c.args.step.now c.args.w.now c.requires.0)))
+    (λ c o h less. ap (λ (f : Four). lane f o) c.tetra4.ensures ∙ lane_of (λ k. tetra_of c.args.p k c.args.t.now) o h ∙ ap (λ (q : Plan). tetra_of q o c.args.t.now) c.requires.0)
     (λ c κs. c.requires.1)
     (λ c. c.rest.ensures))

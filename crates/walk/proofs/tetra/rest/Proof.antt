@@ -12,13 +12,12 @@ rest_spec =
     tie.close
     (tie.spec
     (λ c κs. omega arith)
-    (λ c κs. let s = c in (near_first _ s.args.step.now s.args.w.now c.first_three-p.ensures, omega (arith, s.requires, far-first _ s.args.step.now s.args.w.now c.first_three-p.ensures)))
-    (λ c κs. let s = c in (near_first _ s.args.step.now s.args.w.now c.first_three-p.ensures, omega (arith, s.requires, far-first _ s.args.step.now s.args.w.now c.first_three-p.ensures)))
-    (λ c κs. let s = c in (near_first _ s.args.step.now s.args.w.now c.first_three-p.ensures, omega (arith, s.requires, far-first _ s.args.step.now s.args.w.now c.first_three-p.ensures)))
-    (λ c κs. let s = c in (near_first _ s.args.step.now s.args.w.now c.first_three-p.ensures, omega (arith, s.requires, far-first _ s.args.step.now s.args.w.now c.first_three-p.ensures)))
-    (λ c. let s = c in
-    four-left (λ o. tetra_of (first_three s.args.step.now s.args.w.now) o s.args.t.now) s.args.left _
-    (λ h. c.tetra_left.ensures h ∙ ap (λ (q : Plan). tetra_of q 0 s.args.t.now) c.first_three-p.ensures)
-    (λ h. c.tetra_left-2.ensures h ∙ ap (λ (q : Plan). tetra_of q 1 s.args.t.now) c.first_three-p.ensures)
-    (λ h. c.tetra_left-3.ensures h ∙ ap (λ (q : Plan). tetra_of q 2 s.args.t.now) c.first_three-p.ensures)
-    (λ h. c.tetra_left-4.ensures h ∙ ap (λ (q : Plan). tetra_of q 3 s.args.t.now) c.first_three-p.ensures)))
+    (λ c κs. (near_first _ c.args.step.now c.args.w.now c.first_three-p.ensures, omega (arith, c.requires, far-first _ c.args.step.now c.args.w.now c.first_three-p.ensures)))
+    (λ c κs. (near_first _ c.args.step.now c.args.w.now c.first_three-p.ensures, omega (arith, c.requires, far-first _ c.args.step.now c.args.w.now c.first_three-p.ensures)))
+    (λ c κs. (near_first _ c.args.step.now c.args.w.now c.first_three-p.ensures, omega (arith, c.requires, far-first _ c.args.step.now c.args.w.now c.first_three-p.ensures)))
+    (λ c κs. (near_first _ c.args.step.now c.args.w.now c.first_three-p.ensures, omega (arith, c.requires, far-first _ c.args.step.now c.args.w.now c.first_three-p.ensures)))
+    (λ c. four-left (λ o. tetra_of (first_three c.args.step.now c.args.w.now) o c.args.t.now) c.args.left _
+    (λ h. c.tetra_left.ensures h ∙ ap (λ (q : Plan). tetra_of q 0 c.args.t.now) c.first_three-p.ensures)
+    (λ h. c.tetra_left-2.ensures h ∙ ap (λ (q : Plan). tetra_of q 1 c.args.t.now) c.first_three-p.ensures)
+    (λ h. c.tetra_left-3.ensures h ∙ ap (λ (q : Plan). tetra_of q 2 c.args.t.now) c.first_three-p.ensures)
+    (λ h. c.tetra_left-4.ensures h ∙ ap (λ (q : Plan). tetra_of q 3 c.args.t.now) c.first_three-p.ensures)))
