@@ -1,18 +1,18 @@
 -- Demand 3 in a table that was read from a table file: its floats are those of the file's bits (`float_read`), and where they are from 0 to 1, demand 3 holds of it, by the
 -- record that was read and by the sizes and counts that came back. Assumes nothing.
-use Prim.Native.Nat.{ℕ, ◌≤◌, ◌<◌}
+use Prim.Native.Nat.{ℕ, ◌<◌}
 use mathlib.Core.Path.{◌≡◌, sym, ap, subst, ◌∙◌}
 use mathlib.Core.List.{List}
 use native.Mathlib.Omega.{arith}
 use lib.Dec.{T}
 use lib.Pow.{are_bytes}
-use lib.Ieee.{Float, nan, binary32, of_bits}
+use lib.Ieee.{nan, binary32, of_bits}
 use lib.ListN.{length, get_or}
 use Rattle.lists.proofs.Lists.{get_d_tabulate}
 use Rattle.binary32.specs.Range.{Share}
 use Rattle.layout.specs.declared.MultidimensionalLut.{MultidimensionalLut}
 use Rattle.layout.specs.declared.Laid.{Laid}
-use Rattle.layout.specs.Layout.{laid_of, IsLayout, entries}
+use Rattle.layout.specs.Layout.{laid_of, entries}
 use Rattle.lookup.specs.Table.{answer_at}
 use Rattle.flash.specs.Refusals.{layout_in, total_in}
 use Rattle.flash.specs.Read.{entry_in, TableRead, floats_of}

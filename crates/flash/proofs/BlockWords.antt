@@ -1,5 +1,5 @@
 -- A block written word by word: `block-first`, `block-next`, `block_last`. `block-byte`: byte i of word q. Assumes nothing.
-use Rattle.std.proofs.Common.{◌≡◌, ℕ, zero, suc, ◌+◌, ◌-◌, ◌*◌, ◌/◌, ◌%◌, ◌<◌, List, sym, refl, ap, ◌∙◌, add-zero, mod-eq_of_lt, zero-add, add-one, arith, lt-ltb}
+use Rattle.std.proofs.Common.{◌≡◌, ℕ, suc, ◌+◌, ◌*◌, ◌/◌, ◌%◌, ◌<◌, List, sym, refl, ap, ◌∙◌, add-zero, mod-eq_of_lt, zero-add, add-one, arith, lt-ltb}
 use Rattle.lists.specs.Buffer.{written_from}
 use Rattle.lists.proofs.Buffer.{written-from-on}
 use Rattle.flash.specs.File.{byte_of, sum_to, front, check_of, block_word, block_byte}

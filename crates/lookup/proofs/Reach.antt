@@ -1,5 +1,5 @@
 -- No distance leads out of the table. Assumes nothing.
-use Prim.Native.Nat.{ℕ, ◌+◌, ◌-◌, ◌*◌, ◌≤◌, ◌<◌, max}
+use Prim.Native.Nat.{ℕ, ◌+◌, ◌*◌, ◌≤◌, ◌<◌, max}
 use native.Mathlib.Omega.{arith}
 use native.Mathlib.Nat.{mul_comm, mul_assoc, mul-le-mul_right, suc-mul}
 use mathlib.Core.Path.{◌≡◌, ap, ◌∙◌}
@@ -11,7 +11,6 @@ use lib.ListN.{length, get_or}
 use borrow.Author.Tests.{ltb-true}
 use Rattle.lists.specs.Lists.{every, product}
 use Rattle.lists.proofs.Lists.{every-head, every_rest}
-use Rattle.cell.specs.declared.Cell.{Cell}
 use Rattle.cell.specs.Rule.{ink_cell}
 use Rattle.cell.proofs.Laws.{ink-on-grid}
 use Rattle.lookup.specs.Table.{cells}

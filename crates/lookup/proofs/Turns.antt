@@ -1,14 +1,14 @@
 -- A loop that sets one entry of a buffer a turn. Assumes nothing.
 use Prim.Native.Nat.{ℕ, ◌+◌, ◌-◌, ◌*◌, ◌≤◌, ◌<◌}
-use mathlib.Core.Path.{◌≡◌, refl, sym, ap, ap₂, subst, ◌∙◌}
+use mathlib.Core.Path.{◌≡◌, refl, ap, ap₂, ◌∙◌}
 use mathlib.Core.List.{List}
 use native.Mathlib.Omega.{arith}
-use lib.Ieee.{Float, nan}
-use lib.ListN.{length, get_or, set, length-set}
+use lib.Ieee.{Float}
+use lib.ListN.{length, set, length-set}
 use mir.Syntax.{w64}
 use mir.Val.{Fits}
 use Rattle.lists.specs.Buffer.{written}
-use Rattle.lists.proofs.Buffer.{length-written, written_next, written-past}
+use Rattle.lists.proofs.Buffer.{length-written, written_next}
 use Rattle.lookup.proofs.Room.{Room}
 
 -- after o of m turns the buffer, which was `old`, is `now`

@@ -9,7 +9,7 @@ use Rattle.cell.specs.declared.Cell.{Cell}
 use Rattle.cell.specs.Rule.{ink_cell, scale}
 use Rattle.layout.specs.Order.{index, Steps}
 use Rattle.layout.specs.Lengths.{length_refusal}
-use Rattle.lookup.specs.Lookup.{Grid, node, lookup_with, never}
+use Rattle.lookup.specs.Lookup.{Grid, lookup_with, never}
 use Rattle.lookup.specs.Table.{cells, nan_refusal}
 
 -- the sum of a list of distances

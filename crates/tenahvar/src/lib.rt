@@ -1,5 +1,6 @@
 // The C interface: thin calls of the crates below, on numbers, slices and arrays. What each owes is in specs/.
 #![tactic(auto)]
+
 mod files;
 
 ghost use Rattle.cubes.specs.Blends.{pyramid, prism, trilinear};

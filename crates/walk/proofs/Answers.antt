@@ -1,20 +1,19 @@
 -- Block by block: a block's outputs are those of the whole, and what is given so far. Assumes nothing.
-use Prim.Native.Nat.{ℕ, zero, suc, ◌+◌, ◌-◌, ◌*◌, ◌^◌, ◌<◌, ◌≤◌, max}
+use Prim.Native.Nat.{ℕ, ◌+◌, ◌-◌, ◌*◌, ◌^◌, ◌<◌, ◌≤◌}
 use native.Mathlib.Omega.{arith}
-use native.Mathlib.Nat.{add-zero, zero-add, not-suc-le-zero, pow-le-pow_right, mul-le-mul_right, zero-lt-suc}
+use native.Mathlib.Nat.{zero-add, not-suc-le-zero, pow-le-pow_right, mul-le-mul_right, zero-lt-suc}
 use native.Mathlib.Decide.{dec_lt}
-use mathlib.Core.Path.{◌≡◌, refl, ap, ap₂, sym, subst, fun_ext, ◌∙◌}
-use mathlib.Core.List.{List, [], ◌∷◌, ◌++◌}
+use mathlib.Core.Path.{◌≡◌, refl, ap, sym, subst, fun_ext, ◌∙◌}
+use mathlib.Core.List.{List, [], ◌++◌}
 use lib.Ieee.{Float, nan}
 use lib.ListN.{length, get_or, take, drop}
 use lib.Seq.{get_or-drop}
-use Rattle.binary32.specs.Blend.{lerp}
 use Rattle.lists.specs.Buffer.{written}
 use Rattle.lists.proofs.Buffer.{length-written, written_at}
 use Rattle.cell.specs.declared.Cell.{Cell}
 use Rattle.lookup.specs.Lookup.{Grid, lookup}
-use Rattle.lookup.specs.Places.{sum, within, reach, answer}
-use Rattle.walk.specs.Walk.{above, weights_at, folded, weights, distance, Distant, Cornered, Folded}
+use Rattle.lookup.specs.Places.{sum, reach, answer}
+use Rattle.walk.specs.Walk.{above, weights_at, folded, distance, Cornered, Folded}
 use Rattle.lookup.proofs.Part.{from-drop}
 use Rattle.walk.proofs.Above.{above-answer, above-above, reach-over}
 use Rattle.walk.specs.declared.Four.{Four}
@@ -23,7 +22,7 @@ use Rattle.walk.specs.Steps.{Weighed, tetra_of, first_three, step_cell, steps_at
 use Rattle.walk.proofs.Blocks.{lane_of}
 use Rattle.walk.proofs.Tetrahedron.{plan-answers}
 use Rattle.walk.proofs.Folding.{folded-above}
-use Rattle.walk.proofs.Steps.{split, weights-at, length-steps, distance-any, distance-reach, reach-any}
+use Rattle.walk.proofs.Steps.{split, weights-at, length-steps, distance-any, distance-reach}
 
 -- ---- output j of the part from o on is output o + j
 

@@ -14,7 +14,7 @@ use lib.Seq.{get_or-set_same, get_or-set_other}
 use Rattle.binary32.specs.Range.{Below}
 use Rattle.binary32.specs.Blend.{lerp}
 use Rattle.cell.specs.declared.Cell.{Cell}
-use Rattle.lookup.specs.Lookup.{Grid, part, lookup_with, lookup, never}
+use Rattle.lookup.specs.Lookup.{Grid, part, lookup_with, never}
 use Rattle.lookup.specs.Places.{reach, within, answer_by, answer}
 use Rattle.lookup.specs.Idle.{reads, weights_of, fourth_on, active}
 use Rattle.lookup.proofs.More.{lookup-more, lookup-few}

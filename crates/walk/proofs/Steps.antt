@@ -1,15 +1,14 @@
 -- Inks by their steps: split in two, the distances of their corners, their weights. Assumes nothing.
 use Prim.Native.Nat.{ℕ, zero, suc, ◌+◌, ◌-◌, ◌*◌, ◌^◌, ◌/◌, ◌%◌, ◌<◌, ◌≤◌, max}
 use native.Mathlib.Omega.{arith}
-use native.Mathlib.Nat.{pow-suc, pow-le-pow_right, zero-add, suc-add, add-zero, add-suc, sub_self, zero-lt-suc}
+use native.Mathlib.Nat.{pow-suc, pow-le-pow_right, zero-add, suc-add, add-zero, sub_self, zero-lt-suc}
 use native.Mathlib.Decide.{dec_lt}
 use mathlib.Core.Path.{◌≡◌, refl, ap, ap₂, sym, subst, ◌∙◌}
 use mathlib.Core.Bool.{Bool, true, false}
 use mathlib.Core.List.{List, [], ◌∷◌, ◌++◌}
 use lib.Dec.{eqb}
 use lib.Ieee.{Float, nan}
-use lib.ListN.{length, get_or, set, length-set, length-append}
-use lib.Seq.{get_or-set_same}
+use lib.ListN.{length, get_or, set, length-set}
 use Rattle.lists.specs.Buffer.{written_from}
 use Rattle.lists.proofs.Buffer.{length-written-from, written-from-next}
 use Rattle.cell.specs.declared.Cell.{Cell}

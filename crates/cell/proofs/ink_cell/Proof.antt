@@ -1,5 +1,5 @@
 -- `cell::ink_cell` meets its contract: NaN is passed on, and the cell of an ink is its callees' put together. Assumes nothing.
-use Rattle.std.proofs.Common.{◌≡◌, ℕ, Bool, true, false, cond, sym, refl, ap, ◌∙◌, subst, rules}
+use Rattle.std.proofs.Common.{◌≡◌, ℕ, Bool, true, false, cond, sym, refl, subst, rules}
 use lib.Ieee.{Float}
 use Rattle.binary32.specs.Range.{UpTo}
 use Rattle.cell.specs.Rule.{product_of, cell_at, cell_low, cell_high, ink_cell}

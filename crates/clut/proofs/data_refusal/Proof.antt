@@ -1,10 +1,10 @@
 -- `clut::data_refusal` meets its contract: each test is the definition's. Assumes nothing.
-use Prim.Native.Nat.{ℕ, ◌*◌}
+use Prim.Native.Nat.{◌*◌}
 use mathlib.Core.Path.{◌≡◌, sym, ◌∙◌}
 use mathlib.Core.Bool.{Bool, true, false}
 use lib.Dec.{ltb}
 use borrow.Author.Rules.{rules}
-use borrow.Author.Tests.{lt-ltb, le-ltb, not-false}
+use borrow.Author.Tests.{lt-ltb, le-ltb}
 use Rattle.clut.specs.Units.{data_refusal}
 use Rattle.clut.proofs.Reading.{precise}
 use Rattle.clut.proofs.data_refusal.Statement.{statement}

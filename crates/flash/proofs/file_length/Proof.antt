@@ -1,6 +1,6 @@
 -- `flash::file_length` meets its contract. Assumes nothing.
-use Rattle.std.proofs.Common.{◌≡◌, ℕ, ◌+◌, ◌*◌, ◌≤◌, ap, arith, rules}
-use Rattle.flash.specs.File.{blocks_for, file_length}
+use Rattle.std.proofs.Common.{ℕ, ◌+◌, ◌*◌, ◌≤◌, ap, arith, rules}
+use Rattle.flash.specs.File.{file_length}
 use Rattle.flash.proofs.Bodies.{blocks-few}
 use Rattle.flash.proofs.file_length.Statement.{statement}
 use Rattle.flash.proofs.file_length.Tie as tie

@@ -3,7 +3,6 @@ use mathlib.Core.Path.{ap}
 use mathlib.Core.Bool.{not}
 use Rattle.std.proofs.Common.{◌≡◌, ◌≤◌, ◌∙◌, arith, w8, rules}
 use borrow.Author.Rules.{Fits-under}
-use borrow.Author.Tests.{not-false}
 use Rattle.layout.specs.Layout.{limit, IsLayout, entries}
 use Rattle.layout.proofs.Laws.{first-filling, entries_fit, inks-to, outputs-to}
 use Rattle.flash.proofs.Writing.{write-unlaid, write-laid}

@@ -8,7 +8,6 @@ use lib.ListN.{get_or}
 use mir.Syntax.{w8}
 use mir.Val.{Fits}
 use borrow.Author.Rules.{rules}
-use borrow.Author.Tests.{not-false}
 use Rattle.layout.specs.Layout.{is_count}
 use Rattle.outcome.proofs.Decided.{refuses, not-both}
 use Rattle.lists.proofs.Lists.{are-bytes}

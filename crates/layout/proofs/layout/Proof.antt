@@ -1,9 +1,8 @@
 -- `layout::layout` meets its contract: a refusal's record of zeros, or the record of what was tested.
 -- Assumes nothing.
-use mathlib.Core.Path.{◌≡◌, sym, ap, subst, ◌∙◌}
+use mathlib.Core.Path.{sym, ap, subst, ◌∙◌}
 use borrow.Author.Rules.{rules}
 use Rattle.layout.specs.declared.Laid.{Laid}
-use Rattle.layout.specs.declared.MultidimensionalLut.{MultidimensionalLut}
 use Rattle.layout.specs.Layout.{refused_by, IsLayout}
 use Rattle.layout.specs.Tested.{Tested}
 use Rattle.layout.proofs.BySizes.{laid-zeroed}

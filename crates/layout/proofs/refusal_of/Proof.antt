@@ -11,7 +11,7 @@ use lib.Dec.{ltb}
 use lib.Ieee.Positive.{first_pos}
 use lib.ListN.{take}
 use borrow.Author.Rules.{rules}
-use borrow.Author.Tests.{not-true, not-false, lt-ltb, le-ltb}
+use borrow.Author.Tests.{lt-ltb, le-ltb}
 use Rattle.lists.specs.Lists.{every, product}
 use Rattle.lists.proofs.Lists.{product-pos, product-some}
 use Rattle.layout.specs.Layout.{limit, total, is_count, refused_by, laid_using, laid_of}

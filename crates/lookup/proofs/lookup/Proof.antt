@@ -6,7 +6,6 @@ use mathlib.Core.Bool.{true, not}
 use mathlib.Core.List.{List}
 use lib.Ieee.{Float}
 use lib.ListN.{length}
-use borrow.Author.Tests.{not-false}
 use Rattle.lists.specs.Lists.{last_first, product}
 use Rattle.lists.proofs.Buffer.{length-left}
 use Rattle.layout.specs.declared.MultidimensionalLut.{MultidimensionalLut}

@@ -8,18 +8,18 @@ use Rattle.tenahvar.proofs.Laid.{slab-taken}
 use Rattle.tenahvar.proofs.tenahvar_cut_slab.Statement.{statement}
 use Rattle.tenahvar.proofs.tenahvar_cut_slab.Tie as tie
 
-pub tenahvar-cut-slab-spec : {M : Type 1} → statement M
-tenahvar-cut-slab-spec =
+pub tenahvar_cut_slab_spec : {M : Type 1} → statement M
+tenahvar_cut_slab_spec =
     tie.close
     (tie.spec
     (λ c κs. search rules)
     (λ c.
-    let refused = c.if1.true in
-    let number = refused-first _ _ refused (ap (λ (l : Laid). l.refusal) c.before.before.layout.ensures.answer) in
+    let refused = c.if-whole-ne0.true in
+    let number = refused-first _ _ refused (ap (λ (l : Laid). l.refusal) c.layout-whole.ensures.answer) in
     record { number = number; entries = unwritten _ _ _ _ refused number })
     (λ c κs. search rules)
     (λ c. search rules)
     (λ c.
-    let none = c.before.before.before.before.if1.false in
-    let laid = c.before.before.before.before.before.before.layout in
-    slab-taken _ _ _ laid.result laid.ensures.answer none (laid.ensures.accepted none) _ _ _ _ _ _ c.before.before.cut-slab.ensures))
+    let none = c.if-whole-ne0.false in
+    let laid = c.layout-whole in
+    slab-taken _ _ _ laid.result laid.ensures.answer none (laid.ensures.accepted none) _ _ _ _ _ _ c.cut_slab.ensures))

@@ -7,18 +7,18 @@ use Rattle.layout.specs.declared.Laid.{Laid}
 use Rattle.tenahvar.proofs.tenahvar_layout.Statement.{statement}
 use Rattle.tenahvar.proofs.tenahvar_layout.Tie as tie
 
-pub tenahvar-layout-spec : {M : Type 1} → statement M
-tenahvar-layout-spec =
+pub tenahvar_layout_spec : {M : Type 1} → statement M
+tenahvar_layout_spec =
     tie.close
     (tie.spec
     (λ c κs. search rules)
     (λ c.
-    let refused = c.if1.true in
-    let number = ap (λ (l : Laid). l.refusal) c.before.before.layout.ensures.answer in
+    let refused = c.if-laid-ne0.true in
+    let number = ap (λ (l : Laid). l.refusal) c.layout-laid.ensures.answer in
     record { number = number; strides = kept _ _ _ refused number; filling = kept _ _ _ refused number; scale = kept _ _ _ refused number })
     (λ c.
-    let laid = c.before.before.before.before.before.before.layout.ensures.answer in
-    let done = sym c.before.before.before.before.if1.false ∙ ap (λ (l : Laid). l.refusal) laid in
+    let laid = c.layout-laid.ensures.answer in
+    let done = sym c.if-laid-ne0.false ∙ ap (λ (l : Laid). l.refusal) laid in
     record {
       number = done;
       strides = ap (λ (l : Laid). l.lut.grid_strides) laid ∙ given _ _ _ done;

@@ -8,18 +8,18 @@ use Rattle.layout.proofs.Laws.{first-filling}
 use Rattle.tenahvar.proofs.tenahvar_total.Statement.{statement}
 use Rattle.tenahvar.proofs.tenahvar_total.Tie as tie
 
-pub tenahvar-total-spec : {M : Type 1} → statement M
-tenahvar-total-spec =
+pub tenahvar_total_spec : {M : Type 1} → statement M
+tenahvar_total_spec =
     tie.close
     (tie.spec
     (λ c κs. search rules)
-    (λ c. let number = ap (λ (l : Laid). l.refusal) c.before.before.layout.ensures.answer in
-    record { number = number; total = kept _ _ _ c.if1.true number })
+    (λ c. let number = ap (λ (l : Laid). l.refusal) c.layout-asked.ensures.answer in
+    record { number = number; total = kept _ _ _ c.if-asked-ne0.true number })
     (λ c κs. search rules)
-    (λ c. let laid = c.before.before.before.layout in
-    let none = c.before.if1.false in
+    (λ c. let laid = c.layout-asked in
+    let none = c.if-asked-ne0.false in
     let number = sym none ∙ ap (λ (l : Laid). l.refusal) laid.ensures.answer in
     record {
       number = number;
-      total = c.entry-count.ensures ∙ first-filling _ (laid.ensures.accepted none) ∙ ap (λ (l : Laid). entries l.lut) laid.ensures.answer ∙ given _ _ _ number;
+      total = c.entry_count.ensures ∙ first-filling _ (laid.ensures.accepted none) ∙ ap (λ (l : Laid). entries l.lut) laid.ensures.answer ∙ given _ _ _ number;
     }))

@@ -5,7 +5,6 @@ use mathlib.Core.Path.{sym, ap, subst, ◌∙◌}
 use mathlib.Core.Bool.{Bool, not}
 use lib.Ieee.{Float}
 use lib.ListN.{length}
-use borrow.Author.Tests.{not-false}
 use Rattle.lists.proofs.Buffer.{length-left}
 use Rattle.lookup.specs.Table.{LookedWith}
 use Rattle.lookup.specs.Idle.{reads_at}
@@ -28,11 +27,10 @@ returns c =
 -- after an accepted layout
 returns-2 : tie.Need-returns
 unfolding reads_at
-returns-2 c =
-    (
-      looked-answered (skip_of c.args.skipping) c.args.lut c.args.table.now c.args.inputs.now c.args.answer.now _ c.is_layout.ensures c.if-not-is_layout.false _ _ c.answered.ensures.0,
-      c.answered.ensures.1,
-    )
+returns-2 c = (
+  looked-answered (skip_of c.args.skipping) c.args.lut c.args.table.now c.args.inputs.now c.args.answer.now _ c.is_layout.ensures c.if-not-is_layout.false _ _ c.answered.ensures.0,
+  c.answered.ensures.1,
+)
 
 pub looked_spec : {M : Type 1} → statement M
 looked_spec =

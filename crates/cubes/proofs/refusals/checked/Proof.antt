@@ -5,7 +5,7 @@ use mathlib.Core.Bool.{true, false, ◌||◌}
 use native.Mathlib.Omega.{arith}
 use lib.Dec.{ltb, eqb}
 use borrow.Author.Rules.{rules}
-use borrow.Author.Tests.{not-true, not-false, eq-eqb, ne_eqb, lt-ltb, le-ltb}
+use borrow.Author.Tests.{eq-eqb, ne_eqb, lt-ltb, le-ltb}
 use Rattle.layout.specs.Layout.{total}
 use Rattle.cubes.specs.Cube.{sizes, refusal}
 use Rattle.cubes.proofs.Reach.{total-is, square-small, node-small, entry-small}

@@ -1,7 +1,6 @@
 -- `cubes::refusals::inside` meets its contract. Assumes nothing.
 use mathlib.Core.Path.{sym, ◌∙◌}
 use borrow.Author.Rules.{rules}
-use borrow.Author.Tests.{not-true, not-false}
 use Rattle.cubes.proofs.refusals.inside.Statement.{statement}
 use Rattle.cubes.proofs.refusals.inside.Tie as tie
 

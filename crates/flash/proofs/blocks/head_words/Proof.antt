@@ -1,5 +1,5 @@
 -- `flash::blocks::head_words` meets its contract: the last word's third and fourth bytes are filling. Assumes nothing.
-use Rattle.std.proofs.Common.{◌≡◌, ℕ, ◌+◌, ◌*◌, ◌≤◌, [], ◌∷◌, get_or, sym, ◌∙◌, arith, rules}
+use Rattle.std.proofs.Common.{◌≡◌, ℕ, ◌≤◌, [], ◌∷◌, get_or, sym, ◌∙◌, arith, rules}
 use lib.ListN.{get_or-eq_default}
 use Rattle.lists.specs.Lists.{tabulate}
 use Rattle.lists.specs.Bytes.{big_endian}

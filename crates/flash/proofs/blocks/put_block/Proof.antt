@@ -1,5 +1,5 @@
 -- `flash::blocks::put_block` meets its contract: after j turns the number and j words are written and summed; the words after the last are 0. Assumes nothing.
-use Rattle.std.proofs.Common.{◌≡◌, ℕ, ◌+◌, ◌-◌, ◌*◌, ◌%◌, ◌<◌, ◌≤◌, min, List, length, get_or, sym, refl, ap, ◌∙◌, le_antisymm, arith, rules}
+use Rattle.std.proofs.Common.{◌≡◌, ℕ, ◌+◌, ◌-◌, ◌*◌, ◌%◌, ◌<◌, ◌≤◌, List, length, get_or, sym, refl, ap, ◌∙◌, le_antisymm, arith, rules}
 use lib.ListN.{get_or-eq_default}
 use Rattle.lists.specs.Buffer.{written_from}
 use Rattle.lists.proofs.Buffer.{length-written-from}

@@ -1,6 +1,5 @@
 -- `flash::words::word` meets its contract. Assumes nothing.
-use Rattle.std.proofs.Common.{ap, ◌∙◌, rules}
-use Rattle.flash.specs.Turned.{turned_word}
+use Rattle.std.proofs.Common.{◌∙◌, rules}
 use Rattle.flash.proofs.words.word.Statement.{statement}
 use Rattle.flash.proofs.words.word.Tie as tie
 

@@ -6,7 +6,7 @@ use native.Mathlib.Nat.{mul-div_cancel_left}
 use native.Mathlib.Omega.{arith}
 use lib.Dec.{ltb, eqb}
 use borrow.Author.Rules.{rules}
-use borrow.Author.Tests.{not-false, lt-ltb, le-ltb}
+use borrow.Author.Tests.{lt-ltb, le-ltb}
 use Rattle.layout.specs.Layout.{IsLayout, entries}
 use Rattle.layout.proofs.Laws.{inks-to, first-filling, size-from}
 use Rattle.grid_slab.specs.Slab.{size_of, fewer, is_ink, refusal}

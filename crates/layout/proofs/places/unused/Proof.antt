@@ -9,7 +9,6 @@ use lib.Ieee.{of_bits}
 use mir.Syntax.{w64}
 use mir.Val.{Fits}
 use borrow.Author.Count.{below_more}
-use borrow.Author.Tests.{not-false}
 use Rattle.layout.specs.Places.{UnusedAt}
 use Rattle.outcome.proofs.Decided.{refuses, accepts, not-both}
 use Rattle.layout.proofs.Parts.{zero-is-number}

@@ -13,7 +13,7 @@ use mir.Syntax.{w8, w32, w64}
 use mir.Val.{Fits}
 use mir.Facts.{Fits-le, Fits-lit}
 use borrow.Author.Rules.{rules}
-use borrow.Author.Tests.{not-false, leb-true, le-leb}
+use borrow.Author.Tests.{leb-true, le-leb}
 use Rattle.layout.specs.Layout.{limit, total, stride}
 use Rattle.layout.specs.Places.{UsedAt}
 use Rattle.outcome.proofs.Decided.{refuses, not-both}

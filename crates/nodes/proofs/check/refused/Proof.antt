@@ -2,7 +2,6 @@
 use mathlib.Core.Path.{sym, ap, ◌∙◌}
 use mathlib.Core.Bool.{Bool, cond, not}
 use Prim.Native.Nat.{ℕ}
-use borrow.Author.Tests.{not-false}
 use Rattle.layout.specs.Layout.{entries}
 use Rattle.layout.proofs.Laws.{first-filling}
 use Rattle.layout.specs.Lengths.{length_refusal}

@@ -2,7 +2,6 @@
 use mathlib.Core.Path.{◌≡◌, sym, ap, ◌∙◌}
 use mathlib.Core.Bool.{Bool, true, false, cond}
 use lib.Ieee.{of_bits}
-use borrow.Author.Tests.{not-true, not-false}
 use Rattle.lookup.specs.Lookup.{idle}
 use Rattle.walk.specs.Kept.{skip_of}
 use Rattle.walk.proofs.cells.places.Statement.{statement}

@@ -1,5 +1,5 @@
 -- `walk::count::reads_of` meets its contract: no bit is shifted out. Assumes nothing.
-use Prim.Native.Nat.{ℕ, ◌-◌, ◌*◌, ◌^◌, ◌≤◌, ◌<◌}
+use Prim.Native.Nat.{ℕ, ◌*◌, ◌^◌, ◌≤◌, ◌<◌}
 use native.Mathlib.Omega.{arith}
 use native.Mathlib.Nat.{mod-eq_of_lt, pow-le-pow_right, zero-lt-suc}
 use Rattle.walk.proofs.count.reads_of.Statement.{statement}

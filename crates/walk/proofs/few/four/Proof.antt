@@ -11,7 +11,6 @@ use Rattle.walk.specs.Blocks.{lane, Gives}
 use Rattle.walk.specs.Steps.{tetra_of, fourth}
 use Rattle.walk.proofs.Blocks.{lane-is}
 use lib.ListN.{length, take, drop}
-use borrow.Author.Tests.{not-false}
 use Rattle.lookup.proofs.Turns.{same-room}
 use Rattle.walk.proofs.Answers.{block-gives, written-gives}
 use Rattle.walk.proofs.few.four.Statement.{statement}

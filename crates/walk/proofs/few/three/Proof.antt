@@ -1,12 +1,9 @@
 -- `walk::few::three` meets its contract: one block, or output by output. Assumes nothing.
-use Prim.Native.Nat.{ℕ, ◌+◌, ◌≤◌, ◌<◌}
+use Prim.Native.Nat.{◌+◌, ◌≤◌}
 use native.Mathlib.Omega.{arith}
-use native.Mathlib.Nat.{zero-add}
-use mathlib.Core.Path.{◌≡◌, ap, ap₂, sym, ◌∙◌}
 use Rattle.walk.specs.Steps.{tetra_of}
 use Rattle.walk.proofs.Blocks.{lane-is}
 use lib.ListN.{length}
-use borrow.Author.Tests.{not-false}
 use Rattle.lookup.proofs.Turns.{same-room}
 use Rattle.walk.proofs.Answers.{block-gives, written-gives}
 use Rattle.walk.proofs.few.three.Statement.{statement}

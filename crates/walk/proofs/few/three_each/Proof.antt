@@ -1,5 +1,5 @@
 -- `walk::few::three_each` meets its contract: each turn sets one answer. Assumes nothing.
-use Prim.Native.Nat.{◌+◌, ◌-◌}
+use Prim.Native.Nat.{◌-◌}
 use native.Mathlib.Omega.{arith}
 use lib.ListN.{length}
 use Rattle.lookup.proofs.Turns.{Turned, Turn, turned_none, a_turn, turned_more, turned-all}

@@ -1,8 +1,7 @@
 -- `walk::few::two` meets its contract: one block, or output by output. Assumes nothing.
-use Prim.Native.Nat.{ℕ, ◌+◌, ◌*◌, ◌≤◌, ◌<◌}
+use Prim.Native.Nat.{◌+◌, ◌*◌, ◌≤◌, ◌<◌}
 use native.Mathlib.Omega.{arith}
-use native.Mathlib.Nat.{zero-add}
-use mathlib.Core.Path.{◌≡◌, ap, ap₂, sym, ◌∙◌}
+use mathlib.Core.Path.{ap₂, ◌∙◌}
 use mathlib.Core.List.{[], ◌∷◌}
 use lib.Ieee.{Float}
 use Rattle.binary32.specs.Blend.{along}
@@ -10,7 +9,6 @@ use Rattle.lookup.specs.Places.{answer}
 use Rattle.walk.specs.Blocks.{lane, at}
 use Rattle.walk.proofs.Blocks.{lane-is}
 use lib.ListN.{length}
-use borrow.Author.Tests.{not-false}
 use Rattle.lookup.proofs.Turns.{same-room}
 use Rattle.walk.proofs.Pairs.{two-inks}
 use Rattle.walk.proofs.Answers.{block-gives, written-gives}

@@ -6,7 +6,7 @@ use lib.ListN.{length, get_or, length-set}
 use Rattle.walk.specs.Blocks.{lane}
 use lib.Ieee.{nan}
 use Rattle.lists.specs.Buffer.{written_from}
-use Rattle.lists.proofs.Buffer.{length-written-from, written-from-next}
+use Rattle.lists.proofs.Buffer.{length-written-from}
 use Rattle.walk.proofs.Blocks.{given-block, given-none, given-next, three-stored, room-2, room-3}
 use Rattle.walk.proofs.lanes.give.Statement.{statement}
 use Rattle.walk.proofs.lanes.give.Tie as tie

@@ -1,6 +1,5 @@
 -- `walk::many::highest` meets its contract: there is room for every corner. Assumes nothing.
 use native.Mathlib.Omega.{arith}
-use Prim.Native.Nat.{◌≤◌, ◌^◌, ◌*◌}
 use borrow.Author.Rules.{rules}
 use Rattle.walk.proofs.Answers.{corners-fit, blocks-fit}
 use Rattle.walk.proofs.many.highest.Statement.{statement}

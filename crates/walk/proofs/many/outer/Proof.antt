@@ -3,8 +3,6 @@ use Prim.Native.Nat.{ℕ, ◌+◌, ◌-◌, ◌≤◌}
 use native.Mathlib.Omega.{arith}
 use native.Mathlib.Nat.{one-le-pow, zero-lt-suc}
 use mathlib.Core.Path.{◌≡◌, refl, subst, ◌∙◌}
-use lib.Ieee.{Float}
-use mathlib.Core.List.{List}
 use lib.ListN.{length}
 use Rattle.walk.specs.Walk.{above, Cornered}
 use Rattle.lookup.proofs.Part.{from-length}

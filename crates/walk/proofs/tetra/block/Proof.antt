@@ -3,8 +3,8 @@ use native.Mathlib.Omega.{arith}
 use mathlib.Core.Path.{ap, ◌∙◌}
 use Rattle.walk.specs.declared.Four.{Four}
 use Rattle.walk.specs.declared.Plan.{Plan}
-use Rattle.walk.specs.Blocks.{lane, four_of}
-use Rattle.walk.specs.Steps.{tetra_of, first_three}
+use Rattle.walk.specs.Blocks.{lane}
+use Rattle.walk.specs.Steps.{tetra_of}
 use Rattle.walk.proofs.Blocks.{lane_of}
 use Rattle.walk.proofs.Tetrahedron.{near_first, far-first}
 use Rattle.walk.proofs.tetra.block.Statement.{statement}

@@ -1,5 +1,4 @@
 -- `walk::tetra::plan_of` meets its contract: the sums fit, and each choice is the definition's. Assumes nothing.
-use Prim.Native.Nat.{◌+◌}
 use native.Mathlib.Omega.{arith}
 use Rattle.walk.proofs.Tetrahedron.{plan-is}
 use Rattle.walk.proofs.tetra.plan_of.Statement.{statement}
