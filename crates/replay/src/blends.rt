@@ -1,6 +1,8 @@
 // Cubes of the list.
-use crate::{floats, print, words};
+use crate::words::{self, Words};
+use crate::{floats, print};
 use cell::Cell;
+use std::io::{self, Write};
 
 // The cells of a cube's three inks, its size and outputs.
 #[derive(Clone, Copy)]
@@ -13,18 +15,18 @@ struct Cube {
 }
 
 // Three lower nodes, three upper ones, three weights, a size and a count of outputs; then a table, and the call with it.
-pub(crate) fn cube_of(kind: usize) {
-    let x = words::number();
-    let y = words::number();
-    let z = words::number();
-    let x_n = words::number();
-    let y_n = words::number();
-    let z_n = words::number();
-    let wx = floats::float();
-    let wy = floats::float();
-    let wz = floats::float();
-    let g = words::byte();
-    let m = words::number();
+pub(crate) fn cube_of(list: &mut Words, out: &mut impl Write, kind: usize) -> io::Result<()> {
+    let x = words::number(list);
+    let y = words::number(list);
+    let z = words::number(list);
+    let x_n = words::number(list);
+    let y_n = words::number(list);
+    let z_n = words::number(list);
+    let wx = floats::float(list);
+    let wy = floats::float(list);
+    let wz = floats::float(list);
+    let g = words::byte(list);
+    let m = words::number(list);
     let at = Cube {
         x: Cell { x, x_n, w: wx },
         y: Cell {
@@ -41,19 +43,25 @@ pub(crate) fn cube_of(kind: usize) {
         m,
     };
     let mut room = floats::room();
-    let t = words::count(40000);
-    floats::fill(false, t, &mut room);
-    blend(kind, at, &room[..t]);
+    let t = words::count(list, 40000);
+    floats::fill(list, false, t, &mut room);
+    blend(list, out, kind, at, &room[..t])
 }
 
-fn blend(kind: usize, at: Cube, cube: &[f32]) {
-    let r = words::count(4096);
-    let mut buffer = floats::buffer(true, r);
+fn blend(
+    list: &mut Words,
+    out: &mut impl Write,
+    kind: usize,
+    at: Cube,
+    cube: &[f32],
+) -> io::Result<()> {
+    let r = words::count(list, 4096);
+    let mut buffer = floats::buffer(list, true, r);
     let left = &mut buffer[..r];
     let number = match kind {
         6 => cubes::pyramidal(at.x, at.y, at.z, at.g, at.m, cube, left),
         7 => cubes::prismatic(at.x, at.y, at.z, at.g, at.m, cube, left),
         _ => cubes::trilinear(at.x, at.y, at.z, at.g, at.m, cube, left),
     };
-    print::answer(number, left);
+    print::answer(out, number, left)
 }

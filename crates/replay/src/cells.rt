@@ -1,22 +1,24 @@
 // Weights of the list.
-use crate::{floats, print, words};
+use crate::words::{self, Words};
+use crate::{floats, print};
 use cell::Cell;
+use std::io::{self, Write};
 
-pub(crate) fn weight() {
-    let g = words::byte();
-    let ranged = weights::ranged_256(g, words::byte());
+pub(crate) fn weight(list: &mut Words, out: &mut impl Write) -> io::Result<()> {
+    let g = words::byte(list);
+    let ranged = weights::ranged_256(g, words::byte(list));
     let cell = ranged.cell;
-    print::number(ranged.refusal);
-    print::word(words::low_word(cell.x));
-    print::word(words::low_word(cell.x_n));
-    print::word(patterns::bits(cell.w));
+    print::number(out, ranged.refusal)?;
+    print::word(out, words::low_word(cell.x))?;
+    print::word(out, words::low_word(cell.x_n))?;
+    print::word(out, patterns::bits(cell.w))
 }
 
-pub(crate) fn constant() {
-    let cell = weights::ranged_33(words::byte());
-    print::digits(words::low_word(cell.x));
-    print::word(words::low_word(cell.x_n));
-    print::word(patterns::bits(cell.w));
+pub(crate) fn constant(list: &mut Words, out: &mut impl Write) -> io::Result<()> {
+    let cell = weights::ranged_33(words::byte(list));
+    print::digits(out, words::low_word(cell.x))?;
+    print::word(out, words::low_word(cell.x_n))?;
+    print::word(out, patterns::bits(cell.w))
 }
 
 // One byte more of FNV-1a, the number's low one.
@@ -30,14 +32,14 @@ fn summed_cell(sum: u32, c: Cell) -> u32 {
     summed(summed(summed(summed(nodes, w), w >> 8), w >> 16), w >> 24)
 }
 
-pub(crate) fn weights() {
-    let ranged = weights::create_ranged_256(words::byte());
+pub(crate) fn weights(list: &mut Words, out: &mut impl Write) -> io::Result<()> {
+    let ranged = weights::create_ranged_256(words::byte(list));
     let all = ranged.weights;
     let mut sum: u32 = 0x811c9dc5;
     for i in 0..256 {
         let c = all[i];
         sum = summed_cell(sum, c);
     }
-    print::number(ranged.refusal);
-    print::word(sum);
+    print::number(out, ranged.refusal)?;
+    print::word(out, sum)
 }

@@ -1,5 +1,6 @@
 // Reads a list of calls, makes each with the proved crates and prints what came back. tests/vectors says how the list is written.
 #![tactic(auto)]
+
 mod blends;
 mod calls;
 mod cells;
@@ -11,28 +12,43 @@ mod record;
 mod slabs;
 mod words;
 
-use libc::STDOUT_FILENO;
+use std::io::{self, BufWriter, Read, Write};
+use words::Words;
 
 // The cases up to a kind that is none, as 0. Each reads its words and prints its line.
-fn main() {
+fn main(rt: HostRuntime) -> io::Result<()> {
+    let mut input = Vec::new(rt.alloc());
+    rt.reader().read_to_end(&mut input)?;
+    let mut list = Words { rest: &input };
+    let mut out = BufWriter::new(rt.alloc(), io::writer(&rt))?;
     for _ in 0..65536usize {
-        let kind = words::number();
+        let kind = words::number(&mut list);
         match kind {
-            1 | 3 | 13 => calls::tabled(kind, record::asked()),
-            2 => calls::layout(),
-            4 => cells::weight(),
-            5 => cells::weights(),
-            6 => blends::cube_of(kind),
-            7 => blends::cube_of(kind),
-            8 => blends::cube_of(kind),
-            9 => cells::constant(),
-            10 => elements::clut(),
-            11 => calls::tabled(kind, record::listed(0)),
-            12 => elements::units(),
-            14 => files::write(record::asked()),
-            15 => files::read(),
+            1 | 3 | 13 => {
+                let lut = record::asked(&mut list);
+                calls::tabled(&mut list, &mut out, kind, lut)?;
+            }
+            2 => calls::layout(&mut list, &mut out)?,
+            4 => cells::weight(&mut list, &mut out)?,
+            5 => cells::weights(&mut list, &mut out)?,
+            6 => blends::cube_of(&mut list, &mut out, kind)?,
+            7 => blends::cube_of(&mut list, &mut out, kind)?,
+            8 => blends::cube_of(&mut list, &mut out, kind)?,
+            9 => cells::constant(&mut list, &mut out)?,
+            10 => elements::clut(&mut list, &mut out)?,
+            11 => {
+                let lut = record::listed(&mut list, 0);
+                calls::tabled(&mut list, &mut out, kind, lut)?;
+            }
+            12 => elements::units(&mut list, &mut out)?,
+            14 => {
+                let lut = record::asked(&mut list);
+                files::write(&mut list, &mut out, lut)?;
+            }
+            15 => files::read(&mut list, &mut out)?,
             _ => break,
         }
-        io::write_all(STDOUT_FILENO, b"\n");
+        out.write_all(b"\n")?;
     }
+    out.flush()
 }

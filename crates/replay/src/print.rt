@@ -1,36 +1,38 @@
 // The words that are printed.
-use libc::STDOUT_FILENO;
+use std::io::{self, Write};
 
-pub(crate) fn number(value: u32) {
-    io::print_decimal(STDOUT_FILENO, value as u64);
+pub(crate) fn number(out: &mut impl Write, value: u32) -> io::Result<()> {
+    write!(out, "{value}")
 }
 
-pub(crate) fn digits(value: u32) {
+pub(crate) fn digits(out: &mut impl Write, value: u32) -> io::Result<()> {
     let text = patterns::hex(value);
-    io::write_all(STDOUT_FILENO, &text);
+    out.write_all(&text)
 }
 
 // Eight digits after a blank.
-pub(crate) fn word(value: u32) {
-    io::write_all(STDOUT_FILENO, b" ");
-    digits(value);
+pub(crate) fn word(out: &mut impl Write, value: u32) -> io::Result<()> {
+    out.write_all(b" ")?;
+    digits(out, value)
 }
 
-pub(crate) fn floats(part: &[f32]) {
+pub(crate) fn floats(out: &mut impl Write, part: &[f32]) -> io::Result<()> {
     for i in 0..part.len() {
-        word(patterns::bits(part[i]));
+        word(out, patterns::bits(part[i]))?;
     }
+    Ok(())
 }
 
-pub(crate) fn words(part: &[u32]) {
+pub(crate) fn words(out: &mut impl Write, part: &[u32]) -> io::Result<()> {
     for i in 0..part.len() {
-        word(part[i]);
+        word(out, part[i])?;
     }
+    Ok(())
 }
 
 // A file's bytes, four to a word, the first counting most; after a word 0 how many more zeros follow it. What is left at the end makes
 // a word of its own.
-pub(crate) fn file(part: &[u8]) {
+pub(crate) fn file(out: &mut impl Write, part: &[u8]) -> io::Result<()> {
     let mut value: u32 = 0;
     let mut zeros = false;
     let mut more: u32 = 0;
@@ -39,32 +41,33 @@ pub(crate) fn file(part: &[u8]) {
         if i % 4 == 3 {
             if value != 0 {
                 if zeros {
-                    word(more);
+                    word(out, more)?;
                 }
                 zeros = false;
-                word(value);
+                word(out, value)?;
             } else {
                 if zeros {
                     more = std::num::wrapping_add_u32(more, 1);
                 } else {
                     zeros = true;
                     more = 0;
-                    word(0);
+                    word(out, 0)?;
                 }
             }
             value = 0;
         }
     }
     if zeros {
-        word(more);
+        word(out, more)?;
     }
     if part.len() % 4 != 0 {
-        word(value);
+        word(out, value)?;
     }
+    Ok(())
 }
 
 // The words of a call that answers a number and leaves floats.
-pub(crate) fn answer(answered: u32, left: &[f32]) {
-    number(answered);
-    floats(left);
+pub(crate) fn answer(out: &mut impl Write, answered: u32, left: &[f32]) -> io::Result<()> {
+    number(out, answered)?;
+    floats(out, left)
 }

@@ -1,6 +1,8 @@
 // Records: a layout's with one place changed where the list says so, or each place listed; and how they are printed.
-use crate::{print, words};
+use crate::print;
+use crate::words::{self, Words};
 use layout::{Laid, MultidimensionalLut};
+use std::io::{self, Write};
 
 // Places 0 to 15 are the strides, 16 to 31 the filling sizes, 32 to 47 the scales, 48 to 63 the sizes, then n and m.
 fn changed(lut: MultidimensionalLut, place: usize, value: usize) -> MultidimensionalLut {
@@ -24,26 +26,26 @@ fn changed(lut: MultidimensionalLut, place: usize, value: usize) -> Multidimensi
 }
 
 // A record whose places are listed one by one from the first one on; those before it are zeros.
-pub(crate) fn listed(first: usize) -> MultidimensionalLut {
+pub(crate) fn listed(list: &mut Words, first: usize) -> MultidimensionalLut {
     let mut lut = layout::refused(0).lut;
     for place in first..66 {
-        lut = changed(lut, place, words::number());
+        lut = changed(lut, place, words::number(list));
     }
     lut
 }
 
 // The layout of sixteen sizes, n and m, which are the last places of a record.
-pub(crate) fn laid() -> Laid {
-    let given = listed(48);
+pub(crate) fn laid(list: &mut Words) -> Laid {
+    let given = listed(list, 48);
     let sizes = given.grid_sizes;
     layout::layout(sizes, given.input_inks, given.output_inks)
 }
 
 // The record of a layout, with a place of it changed to a value.
-pub(crate) fn asked() -> MultidimensionalLut {
-    let answer = laid();
-    let place = words::number();
-    changed(answer.lut, place, words::number())
+pub(crate) fn asked(list: &mut Words) -> MultidimensionalLut {
+    let answer = laid(list);
+    let place = words::number(list);
+    changed(answer.lut, place, words::number(list))
 }
 
 // What stands at a place.
@@ -62,8 +64,9 @@ fn word_at(lut: MultidimensionalLut, place: usize) -> u32 {
     }
 }
 
-pub(crate) fn show(lut: MultidimensionalLut) {
+pub(crate) fn show(out: &mut impl Write, lut: MultidimensionalLut) -> io::Result<()> {
     for place in 0..66 {
-        print::word(word_at(lut, place));
+        print::word(out, word_at(lut, place))?;
     }
+    Ok(())
 }

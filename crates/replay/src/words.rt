@@ -1,20 +1,28 @@
 // The words of the list: unsigned, in hex, one to eight digits and a blank or a line's end.
 ghost use Rattle.std.specs.Prelude.{◌≡◌, ◌≤◌, length, take};
 
-use libc::STDIN_FILENO;
+// What is left of the list.
+#[derive(Drop)]
+pub(crate) struct Words<'a> {
+    pub(crate) rest: &'a [u8],
+}
 
 // The next byte of the list, 0 after the last.
-fn next_byte() -> u8 {
-    let mut one = [0u8; 1];
-    io::read_full(STDIN_FILENO, &mut one);
-    one[0]
+fn next_byte(list: &mut Words) -> u8 {
+    match list.rest.split_first() {
+        Some((first, rest)) => {
+            list.rest = rest;
+            *first
+        }
+        None => 0,
+    }
 }
 
 // The next word, 0 after the last. A letter's value is 9 more than its low four bits, which only letters have from 64 on.
-pub(crate) fn number() -> usize {
+pub(crate) fn number(list: &mut Words) -> usize {
     let mut value: usize = 0;
     for _ in 0..9usize {
-        let byte = next_byte();
+        let byte = next_byte(list);
         if byte <= b' ' {
             break;
         }
@@ -24,8 +32,8 @@ pub(crate) fn number() -> usize {
 }
 
 // The low byte of the next word.
-pub(crate) fn byte() -> u8 {
-    (number() % 256) as u8
+pub(crate) fn byte(list: &mut Words) -> u8 {
+    (number(list) % 256) as u8
 }
 
 pub(crate) fn low_word(number: usize) -> u32 {
@@ -33,10 +41,10 @@ pub(crate) fn low_word(number: usize) -> u32 {
 }
 
 // The next word as a count, or the most where that is less.
-pub(crate) fn count(most: usize) -> usize
+pub(crate) fn count(list: &mut Words, most: usize) -> usize
     ensures { result ≤ most }
 {
-    let asked = number();
+    let asked = number(list);
     match asked < most {
         true => asked,
         false => most,
@@ -44,23 +52,23 @@ pub(crate) fn count(most: usize) -> usize
 }
 
 // The next words' bytes.
-pub(crate) fn bytes(count: usize) -> [u8; 4096]
+pub(crate) fn bytes(list: &mut Words, count: usize) -> [u8; 4096]
     requires { count ≤ 4096 }
     ensures { (count ≤ length result) × (count ≡ length (take count result)) }
 {
     let mut all = [0u8; 4096];
     for i in 0..count {
-        all[i] = byte();
+        all[i] = byte(list);
     }
     all
 }
 
 // As many bytes that are all the next word's.
-pub(crate) fn alike(count: usize) -> [u8; 4096]
+pub(crate) fn alike(list: &mut Words, count: usize) -> [u8; 4096]
     requires { count ≤ 4096 }
     ensures { (count ≤ length result) × (count ≡ length (take count result)) }
 {
-    let value = byte();
+    let value = byte(list);
     let mut all = [0u8; 4096];
     for i in 0..count {
         all[i] = value;
@@ -69,7 +77,7 @@ pub(crate) fn alike(count: usize) -> [u8; 4096]
 }
 
 // The bytes of a file: a word for each four of them, the first counting most; after a word 0 how many more zeros follow it.
-pub(crate) fn file(count: usize) -> [u8; 4096]
+pub(crate) fn file(list: &mut Words, count: usize) -> [u8; 4096]
     requires { count ≤ 4096 }
     ensures { (count ≤ length result) × (count ≡ length (take count result)) }
 {
@@ -81,9 +89,9 @@ pub(crate) fn file(count: usize) -> [u8; 4096]
             if more > 0 {
                 more -= 1;
             } else {
-                word = number();
+                word = number(list);
                 if word == 0 {
-                    more = number();
+                    more = number(list);
                 }
             }
         }
@@ -94,13 +102,13 @@ pub(crate) fn file(count: usize) -> [u8; 4096]
 }
 
 // The next words as numbers.
-pub(crate) fn numbers(count: usize) -> [usize; 128]
+pub(crate) fn numbers(list: &mut Words, count: usize) -> [usize; 128]
     requires { count ≤ 128 }
     ensures { (count ≤ length result) × (count ≡ length (take count result)) }
 {
     let mut all = [0usize; 128];
     for i in 0..count {
-        all[i] = number();
+        all[i] = number(list);
     }
     all
 }
