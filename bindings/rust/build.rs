@@ -1,4 +1,4 @@
-// Links libtenahvar.a: from the folder that TENAHVAR_LIB_DIR names, else from the repository's target/.
+// Links libtenahvar.a: from the folder that TENAHVAR_LIB_DIR names, else from where the repository's own is built.
 use std::{
     env,
     path::{Path, PathBuf},
@@ -14,7 +14,7 @@ fn main() {
     let named = env::var_os("TENAHVAR_LIB_DIR").filter(|named| !named.is_empty());
     let folders = match &named {
         Some(named) => places(Path::new(named), repository, &package),
-        None => built(&repository.join("target")),
+        None => built(repository),
     };
     let Some(folder) = folders.iter().find(|f| f.join(ARCHIVE).is_file()) else {
         missing(&folders, named.is_some());
@@ -41,12 +41,9 @@ fn places(named: &Path, repository: &Path, package: &Path) -> Vec<PathBuf> {
     places
 }
 
-// Where `rt staticlib` writes the archive, for x86-64, and tests/native-staticlib the one for this machine.
-fn built(target: &Path) -> Vec<PathBuf> {
-    match env::var("CARGO_CFG_TARGET_ARCH").as_deref() {
-        Ok("x86_64") => vec![target.join("staticlib"), target.join("native")],
-        _ => vec![target.join("native")],
-    }
+// Where `rt lib` writes the archive, and where tests/native-staticlib leaves it.
+fn built(repository: &Path) -> Vec<PathBuf> {
+    ["crates/tenahvar/out", "target/native"].map(|folder| repository.join(folder)).into()
 }
 
 fn missing(folders: &[PathBuf], named: bool) -> ! {
@@ -55,7 +52,7 @@ fn missing(folders: &[PathBuf], named: bool) -> ! {
     if named {
         eprintln!("TENAHVAR_LIB_DIR names the folder that it lies in; an absolute path is always understood");
     } else {
-        eprintln!("build it in the repository, by `rt staticlib tenahvar`, or for Arm by `tests/native-staticlib tenahvar`;");
+        eprintln!("build it in the repository, by `rt lib` in crates/tenahvar;");
         eprintln!("or name the folder that it lies in: TENAHVAR_LIB_DIR=FOLDER");
     }
     process::exit(1)

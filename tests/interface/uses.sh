@@ -5,7 +5,7 @@ set -euo pipefail
 cd "$(dirname "$0")/../.."
 top=$(pwd -P)
 lib=$(cd "${TENAHVAR_LIB_DIR:?names the folder with libtenahvar.a}" && pwd)
-unset TENAHVAR_LIB_DIR DESTDIR RATTLE_HOME PKG_CONFIG_PATH
+unset TENAHVAR_LIB_DIR DESTDIR PKG_CONFIG_PATH
 work=$top/target/interface/uses
 uses=0
 rm -rf "$work"

@@ -17,7 +17,7 @@ archive=${2:+$(readlink -f "$2")}
 cd "$here/../.."
 work=$PWD/target/stack
 rt=$(readlink -f "$(command -v rt)") || { echo "stack: no rt" >&2; exit 2; }
-kit=$(cd "$(dirname "$rt")/.." && pwd -P)/on/$(uname -m)/toolchain
+kit=$(cd "$(dirname "$rt")/.." && pwd -P)/toolchain
 stated=$(sed -n 's/.*archive it is at most \([0-9,]*\) bytes.*/\1/p' include/tenahvar.h | tr -d ,)
 limit=$(awk '$1 == "#define" && $2 == "TENAHVAR_STACK" { print $3 }' include/tenahvar.h)
 [[ $limit =~ ^[0-9]+$ ]] || { echo "stack: include/tenahvar.h has no number TENAHVAR_STACK"; exit 1; }
@@ -35,8 +35,9 @@ cp "$module" module.bc
 # compiled OUT FLAG..: with the flags that the prover gives its compiler for an archive.
 compiled() {
     "$kit/bin/clang" --target=x86_64-unknown-linux-gnu -march=x86-64 -ffunction-sections -fdata-sections \
-        -mllvm -trap-unreachable -mllvm -no-trap-after-noreturn --no-default-config -no-canonical-prefixes -fintegrated-cc1 \
-        -fno-crash-diagnostics -Werror -fPIC -O3 "${@:2}" -x ir module.bc -o "$1" 2>said ||
+        -mllvm -trap-unreachable -mllvm -no-trap-after-noreturn -mllvm -no-x86-call-frame-opt -mllvm -disable-machine-licm \
+        -mllvm -disable-postra-machine-licm -mllvm -sink-common-insts=false --no-default-config -no-canonical-prefixes \
+        -fintegrated-cc1 -fno-crash-diagnostics -Werror -fPIC -O3 "${@:2}" -x ir module.bc -o "$1" 2>said ||
         { cat said; echo "stack: clang does not compile $module"; exit 1; }
 }
 compiled written.ll -S -emit-llvm -Xclang -disable-llvm-passes

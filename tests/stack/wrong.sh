@@ -146,6 +146,20 @@ define void @f(i64 %i) {
   ret void
 }
 LL
+# The prover's modules have each large frame touched as it is taken: in steps, which are followed, or, where it is far too large, in a loop.
+touched() {
+    echo "declare ptr @memcpy(ptr, ptr, i64)
+define void @f(ptr %p, i64 %i) \"probe-stack\"=\"inline-asm\" \"stack-probe-size\"=\"3072\" {
+  %room = alloca [$1 x i8]
+  %r = call ptr @memcpy(ptr %room, ptr %p, i64 $1)
+  %place = getelementptr i8, ptr %room, i64 %i
+  %s = load volatile i8, ptr %place
+  ret void
+}"
+}
+held 0 "at most $((limit - address)) bytes (TENAHVAR_STACK $limit): f > memcpy" < <(touched $((limit - 4 * address)))
+held 1 "too deep; at most $((limit + address)) bytes (TENAHVAR_STACK $limit): f > memcpy" < <(touched $((limit - 2 * address)))
+held 1 "the machine code: f holds" < <(touched 60000)
 held 1 "f has a frame whose size varies: dynamic" <<'LL'
 define void @f(i64 %n) {
   %room = alloca i8, i64 %n

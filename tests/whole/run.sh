@@ -10,8 +10,7 @@ here=$(cd "$(dirname "${BASH_SOURCE[0]}")" && pwd -P)
 top=$(cd "$here/../.." && pwd -P)
 command -v rustc >/dev/null || { echo "whole: no rustc" >&2; exit 2; }
 rt=$(readlink -f "$(command -v rt)") || { echo "whole: no rt" >&2; exit 2; }
-kit=$(cd "$(dirname "$rt")/.." && pwd -P)/on/$(uname -m)/toolchain
-case $(uname -m) in aarch64) triple=aarch64-unknown-linux-gnu ;; *) triple=x86_64-unknown-linux-gnu ;; esac
+kit=$(cd "$(dirname "$rt")/.." && pwd -P)/toolchain
 out=$top/target/whole
 mkdir -p "$out"
 text=${TENAHVAR_MODULE:-}
@@ -22,13 +21,13 @@ if [ -z "$text" ]; then
 fi
 sed -e 's/^define internal \(.*\)@"cell::whole_part"(/define \1@whole_part(/' -e 's/@"cell::whole_part"(/@whole_part(/' "$text" >"$out/whole.ll"
 [ "$(grep -c '^define .*@whole_part(float' "$out/whole.ll")" = 1 ] || { echo "whole: no routine cell::whole_part in $text" >&2; exit 1; }
-"$kit/bin/clang" --target=$triple -O3 -fPIC -ffunction-sections -Wno-override-module -c -x ir "$out/whole.ll" -o "$out/whole.o" 2>"$out/said" ||
+"$kit/bin/clang" --target=x86_64-unknown-linux-gnu -O3 -fPIC -ffunction-sections -Wno-override-module -c -x ir "$out/whole.ll" -o "$out/whole.o" 2>"$out/said" ||
     { cat "$out/said" >&2; exit 1; }
 rm -f "$out/libwhole.a"
 "$kit/bin/llvm-ar" rcs "$out/libwhole.a" "$out/whole.o"
 if command -v nm >/dev/null; then
     size=$(nm -S "$out/whole.o" | awk '$4 == "whole_part" { print $2 }')
-    echo "whole: the routine alone takes $((16#$size)) bytes on $(uname -m)"
+    echo "whole: the routine alone takes $((16#$size)) bytes"
 fi
 rustc -O --edition 2021 --crate-name whole -L native="$out" -o "$out/whole" "$here/main.rs"
 exec "$out/whole"

@@ -8,7 +8,7 @@ top=$(cd "$(dirname "${BASH_SOURCE[0]}")/../.." && pwd -P)
 module=${1:-$top/target/whole/module.ll}
 [ -f "$module" ] || { echo "sizes: no $module: tests/whole/run.sh makes it" >&2; exit 2; }
 rt=$(readlink -f "$(command -v rt)") || { echo "sizes: no rt" >&2; exit 2; }
-clang=$(cd "$(dirname "$rt")/.." && pwd -P)/on/$(uname -m)/toolchain/bin/clang
+clang=$(cd "$(dirname "$rt")/.." && pwd -P)/toolchain/bin/clang
 room=$(mktemp -d)
 trap 'rm -rf "$room"' EXIT
 

@@ -8,7 +8,7 @@ colours=$(cat examples/lookup.out)
 repository=$work/rust
 package=$repository/bindings/rust
 caller=$work/caller
-mkdir -p "$package" "$caller/lib" "$repository"/{lib,target/native,target/staticlib}
+mkdir -p "$package" "$caller/lib" "$repository"/{lib,target/native,crates/tenahvar/out}
 cp -R examples "$repository/"
 cp -R bindings/rust/{Cargo.toml,Cargo.lock,build.rs,src} "$package/"
 
@@ -39,21 +39,17 @@ cp "$archive" "$repository/lib/"
 expect 0 "$colours" "" example "$work" TENAHVAR_LIB_DIR=lib
 expect 0 "$colours" "" example "$caller" -u PWD TENAHVAR_LIB_DIR=../../lib
 
-# No folder is named: rt's archive comes first on x86-64, and elsewhere the native one alone counts.
-advice="build it in the repository, by \`rt staticlib tenahvar\`, or for Arm by \`tests/native-staticlib tenahvar\`;
+# No folder is named: where rt writes the archive comes first, then where the tests leave it.
+advice="build it in the repository, by \`rt lib\` in crates/tenahvar;
 or name the folder that it lies in: TENAHVAR_LIB_DIR=FOLDER"
-if [ "$(uname -m)" = x86_64 ]; then first=staticlib second=native; else first=native second=staticlib; fi
-cp "$archive" "$repository/target/$first/"
-echo "no archive" >"$repository/target/$second/libtenahvar.a"
+first=$repository/crates/tenahvar/out
+second=$repository/target/native
+cp "$archive" "$first/"
+echo "no archive" >"$second/libtenahvar.a"
 expect 0 "$colours" "" example "$caller" TENAHVAR_LIB_DIR=
-mv "$repository/target/$first/libtenahvar.a" "$repository/target/$second/"
-if [ "$first" = staticlib ]; then
-    expect 0 "$colours" "" example "$caller"
-    rm "$repository/target/native/libtenahvar.a"
-    expect 101 "no libtenahvar.a in $repository/target/staticlib, nor in $repository/target/native
+mv "$first/libtenahvar.a" "$second/"
+expect 0 "$colours" "" example "$caller"
+rm "$second/libtenahvar.a"
+expect 101 "no libtenahvar.a in $first, nor in $second
 $advice" "" complaint "$caller"
-else
-    expect 101 "no libtenahvar.a in $repository/target/native
-$advice" "" complaint "$caller"
-fi
 counted "the crate's build"

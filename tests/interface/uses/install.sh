@@ -31,44 +31,28 @@ installed() {
 # listed ROOT: what install prints.
 listed() { printf "install: $1/%s\n" "${places[@]}"; }
 
-# A prover that makes an archive, on both machines, and one that does not.
+# A prover that makes an archive, and one that does not.
 first="install: proving the library first, some minutes where that was not done; target/install.log has what the prover says"
-made=$scratch/repository/target
+made=$scratch/repository/crates/tenahvar/out
 failed="install: the library is not proved or not built: target/install.log has what was said"
-machine x86_64
-prover <<'END'
-[ "$*" = "staticlib tenahvar" ] || exit 8
-echo "rt: lists proved (2 s)" >&2
-mkdir -p target/staticlib
-echo "the x86-64 archive" >target/staticlib/libtenahvar.a
+prover <<END
+$(called crates/tenahvar lib)
+[ -z "\$(cat)" ] || exit 6
+echo "crate lists: modules loaded=0 checked=40"
+echo "logic=proved functions=1"
+mkdir -p out
+echo "the archive" >out/libtenahvar.a
 END
-expect 0 "$(listed "$prefix")" "$first"$'\nrt: lists proved (2 s)' with_rt bash "$install" "$prefix"
-installed "$prefix" "$made/staticlib/libtenahvar.a"
-prover <<<'echo "rt: slab NOT PROVED (exit 1, 3 s)"; exit 1'
-expect 3 "" "$first"$'\nrt: slab NOT PROVED (exit 1, 3 s)\n'"$failed" with_rt bash "$install" "$prefix"
-machine aarch64
-native=$scratch/repository/tests/native-staticlib
-script "$native" <<'END'
-[ "$*" = tenahvar ] || exit 8
-mkdir -p target/native
-echo "the native archive" >target/native/libtenahvar.a
-END
-expect 3 "" "$first"$'\nrt: slab NOT PROVED (exit 1, 3 s)\n'"$failed" with_rt bash "$install" "$prefix"
-prover <<<'[ "$*" = "check tenahvar" ] || exit 8; echo "rt: slab proved (3 s)"'
-mv "$native" "$native.works"
-script "$native" <<<'exit 1'
-expect 3 "" "$first"$'\nrt: slab proved (3 s)\n'"$failed" with_rt bash "$install" "$prefix"
-mv "$native.works" "$native"
-expect 0 "$(listed "$prefix")" "$first
-rt: slab proved (3 s)
-install: this archive is the proved code compiled for aarch64, for tests and benchmarks. What ships is the archive for x86-64:
-install: rt staticlib tenahvar && TENAHVAR_LIB_DIR=target/staticlib bash install PREFIX" with_rt bash "$install" "$prefix"
-installed "$prefix" "$made/native/libtenahvar.a"
+expect 0 "$(listed "$prefix")" "$first"$'\ninstall: lists proved' with_rt bash "$install" "$prefix"
+installed "$prefix" "$made/libtenahvar.a"
+prover <<<$'echo "crate lists: modules loaded=0 checked=40\nlogic=not-proved"; exit 1'
+expect 3 "" "$first"$'\ninstall: lists NOT PROVED\n'"$failed" with_rt bash "$install" "$prefix"
 
 # An archive that is named: from here, from the repository's root, and where both have one from here. It may be the installed one itself.
-mkdir -p "$here/target/native"
-expect 0 "$(listed "$prefix")" "" without_rt env TENAHVAR_LIB_DIR=target/staticlib bash "$install" "$prefix"
-installed "$prefix" "$made/staticlib/libtenahvar.a"
+mkdir -p "$here/target/native" "$scratch/repository/target/native"
+expect 0 "$(listed "$prefix")" "" without_rt env TENAHVAR_LIB_DIR=crates/tenahvar/out bash "$install" "$prefix"
+installed "$prefix" "$made/libtenahvar.a"
+echo "an archive of the tests" >"$scratch/repository/target/native/libtenahvar.a"
 echo "another archive" >"$here/target/native/libtenahvar.a"
 expect 0 "$(listed "$prefix")" "" without_rt env TENAHVAR_LIB_DIR=target/native bash "$install" "$prefix"
 installed "$prefix" "$here/target/native/libtenahvar.a"

@@ -1,8 +1,7 @@
 # `look`. Wrong words are tried where nothing could be built, then all with a probe that records what it is given, then the real probe.
 
 look=$scratch/repository/look
-loader=$kit/on/x86_64/toolchain/lib/ld-linux-x86-64.so.2
-emulator=$kit/on/aarch64/toolchain/bin/qemu-x86_64
+out=$scratch/repository/crates/probe/out
 usage=$(without_rt bash "$look" --help)
 head -n 1 <<<"$usage" | grep -qx 'usage: bash look G N M CODE.. BYTE..' || wrongly "look --help starts with no usage"
 expect 0 "$usage" "" without_rt bash "$look" --help
@@ -24,59 +23,64 @@ wrong "\$'1\\n2'" $'1\n2'
 wrong "\$'\\331\\243'" $'\331\243'   # an Arabic three
 mapfile -t most < <(yes 7 | head -n 16384)
 expect 2 "" "look: 16385 words, and the probe reads at most 16384 bytes" without_rt bash "$look" "${most[@]}" 7
-machine x86_64
 expect 3 "" "look: no rt in PATH: the probe needs the Rattle toolchain" without_rt bash "$look" 2 1 1 255 0 255
 
-# What of the toolchain is missing is said before anything is proved.
-prover <<<'exit 9'
-expect 3 "" "look: no loader at $loader: the probe runs with the toolchain's C library" with_rt bash "$look" 0
-machine aarch64
-expect 3 "" "look: no emulator at $emulator: the probe is an x86-64 program, and this machine is aarch64" with_rt bash "$look" 0
-machine x86_64
-
-# A probe that keeps the bytes and gives the answer that stands in a file.
-script "$loader" <<END
-[ "\$*" = "--library-path \${0%/*} target/bin/probe" ] || exit 8
-cat >"$scratch/bytes"
-cat "$scratch/answer"
-END
 first="look: proving the probe first, some minutes; target/look.log has what the prover says"
 answer=$'ok 2\n3F800000 00000000'
 printf '%s\n' "$answer" >"$scratch/answer"
+prover <<<'exit 9'
 touch "$scratch/repository/target"
 expect 3 "" "$first
 look: cannot write to $scratch/repository/target" with_rt bash "$look" 0
 rm "$scratch/repository/target"
 
-# The log has all that the prover says. A line for each crate comes at once: this prover waits until the first one was seen.
+# A probe that keeps the bytes and gives the answer that stands in a file.
+script "$scratch/probe" <<END
+[ "\$0 \$*" = "crates/probe/out/probe " ] || exit 8
+cat >"$scratch/bytes"
+cat "$scratch/answer"
+END
+
+# The log has all that the prover says. A line for each crate comes at once: this prover waits until the first one was seen. It has nothing
+# to read, and it makes the probe.
 prover <<END
-[ "\$*" = "check probe" ] || exit 8
-echo "a note of the prover: rt: lists proved (2 s)"
-echo "rt: outcome proved (unchanged since it was last proved)"
-echo "rt: lists proved (2 s)"
+$(called crates/probe run)
+[ -z "\$(cat)" ] || exit 6
+echo "fn lists::byte_at: proved"
+echo "crate lists: modules loaded=0 checked=40"
+echo "logic=proved functions=1"
 for ((i = 0; i < 100; i++)); do
-    if grep -q '^rt: lists proved (2 s)' "$work/err"; then break; fi
+    if grep -qx 'look: lists proved' "$work/err"; then break; fi
     sleep 0.1
 done
 [ "\$i" -lt 100 ] || exit 7
 echo "an error that is only a note" >&2
-echo "rt: probe proved (11 s)"
-echo "rt: ok, 3 crates proved"
-mkdir -p target/bin
-cat "\$0" >target/bin/probe
-chmod +x target/bin/probe
+echo "rt: cell: another copy of the repository is building this library; waiting for it, at most half an hour, to use its work" >&2
+echo "crate probe: modules loaded=3 checked=4"
+echo "logic=proved functions=2"
+mkdir -p out
+cat "$scratch/probe" >out/probe
+chmod +x out/probe
+: >out/probe.stamp
 END
-expect 0 "$answer" "$first"$'\nrt: lists proved (2 s)\nrt: probe proved (11 s)' with_rt bash "$look" 2 1 2 255 0 255
+expect 0 "$answer" "$first
+look: lists proved
+look: cell: another copy of the repository is building this library; waiting for it, at most half an hour, to use its work
+look: probe proved" with_rt bash "$look" 2 1 2 255 0 255
 diff - "$scratch/repository/target/look.log" <<'END' || wrongly "target/look.log has not what the prover said (<)"
-a note of the prover: rt: lists proved (2 s)
-rt: outcome proved (unchanged since it was last proved)
-rt: lists proved (2 s)
+fn lists::byte_at: proved
+crate lists: modules loaded=0 checked=40
+logic=proved functions=1
 an error that is only a note
-rt: probe proved (11 s)
-rt: ok, 3 crates proved
+rt: cell: another copy of the repository is building this library; waiting for it, at most half an hour, to use its work
+crate probe: modules loaded=3 checked=4
+logic=proved functions=2
 END
-prover <<<'echo "rt: probe proved (unchanged since it was last proved)"'
+prover <<<'echo "rt: nothing has changed since the last proved build, by out/probe.stamp, so nothing is checked now"'
 expect 0 "$answer" "" with_rt bash "$look" 2 1 2 255 0 255
+rm "$out/probe.stamp"   # as `rt ci` does
+expect 0 "$answer" "$first" with_rt bash "$look" 2 1 2 255 0 255
+: >"$out/probe.stamp"
 ln -s "$look" "$scratch/colour"
 expect 0 "$answer" "" with_rt bash "$scratch/colour" 2 1 2 255 0 255
 
@@ -87,16 +91,6 @@ for words in "0" "$(echo {0..255})" "${most[*]}"; do
     expect 0 "$answer" "" with_rt bash "$look" $words
     [ "$(given)" = " $words " ] || wrongly "the probe was given$(given), not $words"
 done
-
-# On Arm it runs under the emulator.
-script "$emulator" <<END
-echo "\$1" >"$scratch/emulated"
-exec "\$@"
-END
-machine aarch64
-ln -s "$loader" "$kit/on/aarch64/toolchain/lib/"
-expect 0 "$answer" "" with_rt bash "$look" 2 1 2 255 0 255
-[ "$(cat "$scratch/emulated")" = "$kit/on/aarch64/toolchain/lib/${loader##*/}" ] || wrongly "the emulator was not called"
 
 # Each refusal in the header's words, those that C gives.
 "${CC:-cc}" -std=c99 -Wall -Wextra -Werror -pedantic -Iinclude tests/interface/words.c -o "$work/words"
@@ -112,23 +106,25 @@ expect 1 "refused 6" "look: refused 6: the table is shorter than the sizes ask" 
 echo "neither" >"$scratch/answer"
 expect 3 "neither" "look: that is no answer of the probe" with_rt bash "$look" 0
 rm "$scratch/answer"
-script "$emulator" <<<'exit 77'
+script "$out/probe" <<<'exit 77'
 expect 3 "" "look: the probe ended with status 77" with_rt bash "$look" 0
-lines=$'rt: probing NOT PROVED (exit 1, 3 s)\nrt: FAILED: probing'
-prover <<<"echo '$lines'; exit 1"
-expect 3 "" "$lines
+prover <<<"echo 'crate probing: modules loaded=1 checked=2
+logic=not-proved
+rt: the library probing did not build, so nothing above it was checked'; exit 1"
+expect 3 "" "look: probing NOT PROVED
+look: the library probing did not build, so nothing above it was checked
 look: the probe is not proved (rt's status is 1): target/look.log has what the prover said" with_rt bash "$look" 0
 prover <<<'exit 0'
-rm "$scratch/repository/target/bin/probe"
+rm "$out/probe"
 expect 3 "" "$first
-look: rt made no target/bin/probe: remove target/ and try again" with_rt bash "$look" 0
+look: rt made no crates/probe/out/probe: remove crates/probe/out and try again" with_rt bash "$look" 0
 
 # Two at a time: the second waits until the first has done with the prover.
 if [ -e "$scratch/tools/flock" ]; then
     echo "$answer" >"$scratch/answer"
-    machine x86_64
     prover <<<"mkdir '$scratch/busy' && sleep 0.5 && rmdir '$scratch/busy'"
-    script "$scratch/repository/target/bin/probe" <<<""
+    cat "$scratch/probe" >"$out/probe"
+    chmod +x "$out/probe"
     with_rt bash "$look" 0 >"$work/other" 2>&1 &
     other=$!
     expect 0 "$answer" "" with_rt bash "$look" 0
