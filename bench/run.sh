@@ -1,7 +1,7 @@
 #!/usr/bin/env bash
 # run.sh [RUST_TEXT]: time of a lookup, the library's and the crate's Rust text's side by side in one run.
 #
-# Builds the library's archive for this machine (tests/native-staticlib), the oracle from the Rust text (RUST_TEXT,
+# Builds the library's archive (tests/native-staticlib), the oracle from the Rust text (RUST_TEXT,
 # ../shared/docs/src beside the repository unless told otherwise) and the measuring program. Needs rustc, and no network.
 # Run it on a quiet machine. TENAHVAR_ARCHIVE=DIR measures DIR/libtenahvar.a instead of building one.
 set -euo pipefail

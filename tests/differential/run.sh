@@ -1,7 +1,7 @@
 #!/usr/bin/env bash
 # run.sh [--long] [RUST_TEXT]: the library against the oracle, every bit of every answer; every plain lookup asked of both engines.
 #
-# Builds the archives of the library and of the first engine for this machine (tests/native-staticlib), the oracle from
+# Builds the archives of the library and of the first engine (tests/native-staticlib), the oracle from
 # the crate's Rust text (RUST_TEXT, ../shared/docs/src beside the repository unless told otherwise) and the comparing program, and runs it:
 # half a minute; --long makes two million random lookups of either sort (one size, unequal sizes) and larger sets. Needs rustc, and no network.
 # Where the Rust text is not there nothing is compared: it says so and exits with 0.

@@ -1,5 +1,5 @@
 #!/bin/bash
-# run.sh: the C header, the Rust binding and the examples against the archive, on this machine's processor. No network.
+# run.sh: the C header, the Rust binding and the examples against the archive. No network.
 # TENAHVAR_LIB_DIR names a folder with a libtenahvar.a that is built already.
 set -euo pipefail
 cd "$(dirname "$0")/../.."

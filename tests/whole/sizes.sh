@@ -14,7 +14,7 @@ trap 'rm -rf "$room"' EXIT
 
 # alone ATTRIBUTES: the routine and what it calls, with no other function and for no processor yet.
 alone() {
-    awk '/^define internal .*@"(cell::whole_part|std::num::wrapping_sub_u32)"\(/, /^}/' "$module" | sed 's/^define internal \(.*\)@"cell::whole_part"(/define \1@whole_part(/'
+    awk '/^define internal .*@"(cell::whole_part|core::num::wrapping_sub_u32)"\(/, /^}/' "$module" | sed 's/^define internal \(.*\)@"cell::whole_part"(/define \1@whole_part(/'
     grep '^![0-9][0-9]* = ' "$module"
     echo "attributes #0 = { nounwind $1}"
 }
