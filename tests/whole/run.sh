@@ -4,7 +4,7 @@
 # The routine is no public function and stands in the archive only where the compiler put it into its callers. So it is taken out
 # of the LLVM module that the prover hands to its compiler (tests/module), compiled alone as the archive is, and held to the rule
 # that it had before, grid lines compared in turn, and to Rust's cast. Needs rustc and a C linker, and no network.
-# TENAHVAR_MODULE=FILE holds the routine of another module, in LLVM's text form.
+# TENAHVAR_MODULE=FILE holds the routine of the module in FILE, LLVM bitcode or text.
 set -euo pipefail
 here=$(cd "$(dirname "${BASH_SOURCE[0]}")" && pwd -P)
 top=$(cd "$here/../.." && pwd -P)
@@ -13,14 +13,15 @@ rt=$(readlink -f "$(command -v rt)") || { echo "whole: no rt" >&2; exit 2; }
 kit=$(cd "$(dirname "$rt")/.." && pwd -P)/toolchain
 out=$top/target/whole
 mkdir -p "$out"
-text=${TENAHVAR_MODULE:-}
-if [ -z "$text" ]; then
+module=${TENAHVAR_MODULE:-}
+if [ -z "$module" ]; then
     "$top/tests/module" tenahvar "$out"
-    text=$out/module.ll
-    "$kit/bin/clang" -S -emit-llvm -Xclang -disable-llvm-passes -Wno-override-module -x ir "$out/module.bc" -o "$text"
+    module=$out/module.bc
 fi
+text=$out/module.ll
+"$kit/bin/clang" -S -emit-llvm -Xclang -disable-llvm-passes -Wno-override-module -x ir "$module" -o "$text"
 sed -e 's/^define internal \(.*\)@"cell::whole_part"(/define \1@whole_part(/' -e 's/@"cell::whole_part"(/@whole_part(/' "$text" >"$out/whole.ll"
-[ "$(grep -c '^define .*@whole_part(float' "$out/whole.ll")" = 1 ] || { echo "whole: no routine cell::whole_part in $text" >&2; exit 1; }
+[ "$(grep -c '^define .*@whole_part(float' "$out/whole.ll")" = 1 ] || { echo "whole: no routine cell::whole_part in $module" >&2; exit 1; }
 "$kit/bin/clang" --target=x86_64-unknown-linux-gnu -O3 -fPIC -ffunction-sections -Wno-override-module -c -x ir "$out/whole.ll" -o "$out/whole.o" 2>"$out/said" ||
     { cat "$out/said" >&2; exit 1; }
 rm -f "$out/libwhole.a"
