@@ -5,7 +5,7 @@ use oracle::{expected, one_size, Cell};
 use std::fmt::Write;
 
 /// The longest list that is stored, in bytes.
-pub const TEXT: usize = 2 << 20;
+pub const TEXT: usize = 1 << 20;
 
 /// The largest table that `replay` has room for.
 pub const ROOM: usize = 40_000;

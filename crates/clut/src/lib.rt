@@ -5,7 +5,7 @@ mod values;
 
 ghost use Rattle.std.specs.Prelude.{◌≡◌, ℕ, ◌*◌, ◌≤◌, ltb};
 ghost use Rattle.clut.specs.Units.{is_precision, data_refusal, UnitsRead};
-ghost use Rattle.clut.specs.Clut.{ClutRead};
+ghost use Rattle.clut.specs.Clut.{sizes_of, ClutRead};
 
 use layout::Laid;
 
@@ -59,6 +59,19 @@ pub fn read_units(bytes: &[u8], precision: usize, count: usize, entries: &mut [f
     0
 }
 
+// The sixteen grid sizes at an element's start. A byte that is missing counts as 0.
+fn sizes_of(element: &[u8]) -> [u8; 16]
+    ensures { result ≡ sizes_of element.now }
+{
+    let mut sizes = [0u8; 16];
+    let mut i: usize = 0;
+    while i < 16 {
+        sizes[i] = lists::byte_at(element, i);
+        i += 1;
+    }
+    sizes
+}
+
 // Reads an element for n inks in and m out: checks 13, 1, 2, 3, 5, 14, 15, 8. Answers the layout, and sets the first total places of `entries`.
 // Refused, it answers a record of zeros and nothing is written.
 pub fn read_clut(element: &[u8], n: usize, m: usize, entries: &mut [f32]) -> Laid
@@ -67,7 +80,7 @@ pub fn read_clut(element: &[u8], n: usize, m: usize, entries: &mut [f32]) -> Lai
     if element.len() < 20 {
         return layout::refused(13);
     }
-    let laid = layout::layout(lists::first_16(element), n, m);
+    let laid = layout::layout(sizes_of(element), n, m);
     if laid.refusal != 0 {
         return laid;
     }

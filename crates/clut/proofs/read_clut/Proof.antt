@@ -19,7 +19,7 @@ use Rattle.clut.proofs.read_clut.Statement.{statement}
 use Rattle.clut.proofs.read_clut.Tie as tie
 
 laid : (c : tie.After-layout-laid) → let a = c.args in c.layout-laid.result ≡ layout_of a.element.now a.n a.m
-laid c = let a = c.args in c.layout-laid.ensures.answer ∙ ap (λ (sizes : List ℕ). laid_of sizes a.n a.m) c.first_16.ensures
+laid c = let a = c.args in c.layout-laid.ensures.answer ∙ ap (λ (sizes : List ℕ). laid_of sizes a.n a.m) c.sizes_of.ensures
 
 accepted : (c : tie.Else-laid-ne0) → let a = c.args in (layout_of a.element.now a.n a.m).refusal ≡ 0
 accepted c = ap (λ (l : Laid). l.refusal) (sym (laid c.before.before)) ∙ c.if-laid-ne0.false
