@@ -52,7 +52,7 @@ fn missing(folders: &[PathBuf], named: bool) -> ! {
     if named {
         eprintln!("TENAHVAR_LIB_DIR names the folder that it lies in; an absolute path is always understood");
     } else {
-        eprintln!("build it in the repository, by `rt lib` in crates/tenahvar;");
+        eprintln!("build it in the repository, by `rt lib --cpu x86-64` in crates/tenahvar;");
         eprintln!("or name the folder that it lies in: TENAHVAR_LIB_DIR=FOLDER");
     }
     process::exit(1)

@@ -40,7 +40,7 @@ expect 0 "$colours" "" example "$work" TENAHVAR_LIB_DIR=lib
 expect 0 "$colours" "" example "$caller" -u PWD TENAHVAR_LIB_DIR=../../lib
 
 # No folder is named: where rt writes the archive comes first, then where the tests leave it.
-advice="build it in the repository, by \`rt lib\` in crates/tenahvar;
+advice="build it in the repository, by \`rt lib --cpu x86-64\` in crates/tenahvar;
 or name the folder that it lies in: TENAHVAR_LIB_DIR=FOLDER"
 first=$repository/crates/tenahvar/out
 second=$repository/target/native
