@@ -9,6 +9,9 @@ ghost use Rattle.clut.specs.Clut.{sizes_of, ClutRead};
 
 use layout::Laid;
 
+// Sixteen sizes, the precision and three bytes of padding come before the data.
+const HEADER: usize = 20;
+
 // A value has one byte or two.
 fn is_precision(precision: usize) -> bool
     ensures { result ≡ is_precision precision }
@@ -77,7 +80,7 @@ fn sizes_of(element: &[u8]) -> [u8; 16]
 pub fn read_clut(element: &[u8], n: usize, m: usize, entries: &mut [f32]) -> Laid
     ensures { ClutRead element.now n m entries.old result entries.new }
 {
-    if element.len() < 20 {
+    if element.len() < HEADER {
         return layout::refused(13);
     }
     let laid = layout::layout(sizes_of(element), n, m);

@@ -36,7 +36,7 @@ first="install: proving the library first, some minutes where that was not done;
 made=$scratch/repository/crates/tenahvar/out
 failed="install: the library is not proved or not built: target/install.log has what was said"
 prover <<END
-$(called crates/tenahvar lib)
+$(called crates/tenahvar 'lib --cpu x86-64')
 [ -z "\$(cat)" ] || exit 6
 echo "crate lists: modules loaded=0 checked=40"
 echo "logic=proved functions=1"

@@ -46,7 +46,7 @@ answered c r answer =
     (total-is c.before.before.before.before) c.read_units-number.ensures in
     let units = subst (λ (bytes : List ℕ). UnitsRead bytes (precision_of a.element.now) (total_of a.element.now a.n a.m) a.entries.now c.read_units-number.result now) (rest-is 20 a.element.now) counted in
     clut-units a.element.now a.n a.m a.entries.now _ _ units
-    (data-number a.element.now a.n a.m (length a.entries.now) c.if-element-lt20.false (accepted c.before.before.before.before.before.before)) r answer
+    (data-number a.element.now a.n a.m (length a.entries.now) c.if-element-lt-HEADER.false (accepted c.before.before.before.before.before.before)) r answer
 
 pub read_clut_spec : {M : Type 1} → statement M
 read_clut_spec =
@@ -54,13 +54,13 @@ read_clut_spec =
     (tie.spec
     (λ c κs. search rules)
     (λ c. let a = c.args in
-    clut-refused a.element.now a.n a.m a.entries.now 13 (λ e. omega arith) (short-element a.element.now a.n a.m _ c.if-element-lt20.true) _ c.refused.ensures)
+    clut-refused a.element.now a.n a.m a.entries.now 13 (λ e. omega arith) (short-element a.element.now a.n a.m _ c.if-element-lt-HEADER.true) _ c.refused.ensures)
     (λ c κs. search rules)
     (λ c κs. search rules)
     (λ c. let a = c.args in
     let refused : (layout_of a.element.now a.n a.m).refusal ≡ 0 → ⊥ = λ e. c.if-laid-ne0.true (ap (λ (l : Laid). l.refusal) (laid c.before.before) ∙ e) in
     clut-refused a.element.now a.n a.m a.entries.now (layout_of a.element.now a.n a.m).refusal refused
-    (layout-number a.element.now a.n a.m _ c.if-element-lt20.false refused) _ (laid c.before.before ∙ laid-zeroed _ _ _ refused))
+    (layout-number a.element.now a.n a.m _ c.if-element-lt-HEADER.false refused) _ (laid c.before.before ∙ laid-zeroed _ _ _ refused))
     (λ c κs. search rules)
     (λ c. search rules)
     (λ c. search (rules, c.shared_slice_known-2-1.given 16))
