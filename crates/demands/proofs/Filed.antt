@@ -8,7 +8,7 @@ use lib.Dec.{T}
 use lib.Pow.{are_bytes}
 use lib.Ieee.{nan, binary32, of_bits}
 use lib.ListN.{length, get_or}
-use Rattle.lists.proofs.Lists.{get_d_tabulate}
+use Rattle.lists.proofs.Lists.{get_or-tabulate}
 use Rattle.binary32.specs.Range.{Share}
 use Rattle.layout.specs.declared.MultidimensionalLut.{MultidimensionalLut}
 use Rattle.layout.specs.declared.Laid.{Laid}
@@ -27,7 +27,7 @@ module _ (file old : List ℕ) (r : Laid) (now : List ℕ) (read : TableRead fil
   pub float_read : (e : ℕ) → e < total_in file → get_or (floats_of now) e nan ≡ of_bits binary32 (entry_in file e)
   unfolding floats_of
   float_read e h =
-      get_d_tabulate (length now) (λ k. of_bits binary32 (get_or now k 0)) e nan (omega (arith, room-read file old r now read done))
+      get_or-tabulate (length now) (λ k. of_bits binary32 (get_or now k 0)) e nan (omega (arith, room-read file old r now read done))
       ∙ ap (of_bits binary32) (entry_read file old r now read done e h)
 
   module _ (bytes : T (are_bytes file)) (shares : (e : ℕ) → e < total_in file → Share (of_bits binary32 (entry_in file e))) where

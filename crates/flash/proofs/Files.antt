@@ -5,7 +5,7 @@ use native.Mathlib.Decide.{dec_lt}
 use lib.ListN.{get_or-eq_default}
 use Rattle.lists.specs.Lists.{tabulate}
 use Rattle.lists.specs.Buffer.{written, written_from}
-use Rattle.lists.proofs.Lists.{length-tabulate, get_d_tabulate}
+use Rattle.lists.proofs.Lists.{length-tabulate, get_or-tabulate}
 use Rattle.lists.proofs.Buffer.{written_on}
 use Rattle.flash.specs.File.{word_at, block_byte, blocks_for, file_length, contents_of, file_byte}
 use Rattle.flash.specs.Read.{entry_in}
@@ -55,7 +55,7 @@ module _ (head bits : List ℕ) where
       let word : ℕ → ℕ = λ k. word_at head (4 * k) in
       ap (λ (k : ℕ). get_or words k 0) (zero-add j) ∙ ap (λ (l : List ℕ). get_or l j 0) are
       ∙ elim (dec_lt j 5) [
-        | yes low ↦ get_d_tabulate 5 word j 0 low
+        | yes low ↦ get_or-tabulate 5 word j 0 low
         | no high ↦ get_or-eq_default (tabulate 5 word) 0 (omega (arith, length-tabulate 5 word)) ∙ sym (word-past head (4 * j) (omega arith))
       ]
 

@@ -2,7 +2,7 @@
 use Rattle.std.proofs.Common.{◌≡◌, ℕ, ◌+◌, ◌<◌, Bool, true, false, not, eqb, List, get_or, sym, refl, ap, ◌∙◌, arith, eq-eqb, ne_eqb, eqb-true}
 use Rattle.outcome.proofs.Decided.{not-both}
 use Rattle.lists.specs.Lists.{tabulate}
-use Rattle.lists.proofs.Lists.{length-tabulate, get_d_tabulate, every_of, every-at}
+use Rattle.lists.proofs.Lists.{length-tabulate, get_or-tabulate, every_of, every-at}
 use Rattle.flash.specs.File.{sum_to}
 use Rattle.flash.specs.Refusals.{zeros}
 use Rattle.flash.proofs.Sums.{sum-none, sum-each}
@@ -16,12 +16,12 @@ module _ (file : List ℕ) (from count : ℕ) where
   zeros-all h =
       every_of (eqb 0) (tabulate count byte) (λ i l.
       let low : i < count = omega (arith, length-tabulate count byte) in
-      eq-eqb 0 _ (sym (get_d_tabulate count byte i 0 low ∙ h i low)))
+      eq-eqb 0 _ (sym (get_or-tabulate count byte i 0 low ∙ h i low)))
 
   pub zeros-at : zeros file from count ≡ true → (k : ℕ) → k < count → byte k ≡ 0
   unfolding zeros
   zeros-at h k l =
-      sym (get_d_tabulate count byte k 0 l) ∙ sym (eqb-true 0 _ (every-at (eqb 0) (tabulate count byte) k h (omega (arith, length-tabulate count byte))))
+      sym (get_or-tabulate count byte k 0 l) ∙ sym (eqb-true 0 _ (every-at (eqb 0) (tabulate count byte) k h (omega (arith, length-tabulate count byte))))
 
   by-sum : (b : Bool) → zeros file from count ≡ b → eqb (sum_to byte count) 0 ≡ b
   by-sum true e = eq-eqb _ _ (sum-none byte count (zeros-at e))

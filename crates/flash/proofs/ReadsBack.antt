@@ -5,7 +5,7 @@ use native.Mathlib.Decide.{dec_lt}
 use lib.ListN.{get_or-eq_default}
 use Rattle.outcome.specs.Outcome.{or_else}
 use Rattle.lists.specs.Lists.{tabulate}
-use Rattle.lists.proofs.Lists.{length-tabulate, get_d_tabulate, bytes-at}
+use Rattle.lists.proofs.Lists.{length-tabulate, get_or-tabulate, bytes-at}
 use Rattle.layout.specs.declared.MultidimensionalLut.{MultidimensionalLut}
 use Rattle.layout.specs.declared.Laid.{Laid}
 use Rattle.layout.specs.Layout.{limit, IsLayout, laid_of, entries}
@@ -131,7 +131,7 @@ module _ (sizes : List ℕ) (n m : ℕ) (bits : List ℕ)
       let byte : ℕ → ℕ = λ i. get_or (drop 6 file) i 0 in
       ext_get_or 0 (tabulate 16 byte) sizes (length-tabulate 16 byte ∙ sym sixteen) (λ i h.
       let low : i < 16 = omega (arith, length-tabulate 16 byte) in
-      get_d_tabulate 16 byte i 0 low ∙ get_or-drop 6 file i 0 ∙ ap (λ (p : ℕ). get_or file p 0) (six i) ∙ head_in (suc (suc i)) (omega arith))
+      get_or-tabulate 16 byte i 0 low ∙ get_or-drop 6 file i 0 ∙ ap (λ (p : ℕ). get_or file p 0) (six i) ∙ head_in (suc (suc i)) (omega arith))
 
   module _ (unused : (i : ℕ) → i < 16 → n ≤ i → get_or sizes i 0 ≡ 0) where
     filled : (x : ℕ) → min n 16 ≤ x → get_or sizes x 0 ≡ 0

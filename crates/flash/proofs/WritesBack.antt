@@ -5,7 +5,7 @@ use native.Mathlib.Decide.{dec_lt}
 use lib.ListN.{get_or-eq_default}
 use borrow.Author.Tests.{not-false}
 use Rattle.outcome.proofs.Refused.{neither, passed}
-use Rattle.lists.proofs.Lists.{get_d_tabulate}
+use Rattle.lists.proofs.Lists.{get_or-tabulate}
 use Rattle.layout.specs.declared.MultidimensionalLut.{MultidimensionalLut}
 use Rattle.layout.specs.Layout.{IsLayout}
 use Rattle.layout.proofs.BySizes.{laid-inks, laid-outputs, laid-size}
@@ -100,7 +100,7 @@ module _ (file : List ℕ) (each : (i : ℕ) → get_or file i 0 < 256) (room : 
       elim (dec_lt x (inks_in file)) [
         | yes low ↦
             laid-size (sizes_in file) (inks_in file) (outputs_in file) laid x low
-            ∙ get_d_tabulate 16 (λ i. get_or (drop 6 file) i 0) x 0 (omega (arith, fewer))
+            ∙ get_or-tabulate 16 (λ i. get_or (drop 6 file) i 0) x 0 (omega (arith, fewer))
             ∙ get_or-drop 6 file x 0
             ∙ ap (λ (p : ℕ). get_or file p 0) (six x)
         | no high ↦

@@ -6,7 +6,7 @@ use Rattle.outcome.specs.Outcome.{Decides}
 use Rattle.outcome.proofs.Refused.{passed}
 use Rattle.lists.specs.Buffer.{written, left}
 use Rattle.lists.proofs.Buffer.{unwritten, written_same}
-use Rattle.lists.proofs.Lists.{length-tabulate, get_d_tabulate}
+use Rattle.lists.proofs.Lists.{length-tabulate, get_or-tabulate}
 use Rattle.layout.specs.declared.MultidimensionalLut.{MultidimensionalLut}
 use Rattle.layout.specs.Layout.{IsLayout, entries}
 use Rattle.flash.specs.File.{file_length, file_byte, file_of, table_file}
@@ -21,7 +21,7 @@ module _ (sizes : List ℕ) (n m : ℕ) (bits : List ℕ) where
 
   pub file-at : (p : ℕ) → p < file_length (length bits) → get_or (file_of sizes n m bits) p 0 ≡ file_byte (n ∷ m ∷ sizes) bits p
   unfolding file_of
-  file-at p h = get_d_tabulate (file_length (length bits)) (file_byte (n ∷ m ∷ sizes) bits) p 0 h
+  file-at p h = get_or-tabulate (file_length (length bits)) (file_byte (n ∷ m ∷ sizes) bits) p 0 h
 
   pub file-written : (old : List ℕ) → written (file_byte (n ∷ m ∷ sizes) bits) (file_length (length bits)) old
       ≡ written (λ p. get_or (file_of sizes n m bits) p 0) (length (file_of sizes n m bits)) old

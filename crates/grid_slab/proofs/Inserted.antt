@@ -11,7 +11,7 @@ use lib.Ieee.{Float, nan}
 use lib.Ieee.Positive.{first_pos}
 use lib.ListN.{length, get_or}
 use Rattle.lists.specs.Lists.{tabulate, product}
-use Rattle.lists.proofs.Lists.{get_d_tabulate}
+use Rattle.lists.proofs.Lists.{get_or-tabulate}
 use Rattle.layout.specs.Order.{index, Within, node_at}
 use Rattle.layout.proofs.Order.{entries-within, index-injective, node-within, node-back}
 use Rattle.lookup.specs.Lookup.{Grid}
@@ -72,11 +72,11 @@ module _ (gs : List ℕ) (m : ℕ) (f : ℕ → Grid) where
   pub table_at : (ks : List ℕ) (o : ℕ) → Within gs ks → o < m → get_or (table_of gs m f) (index gs ks * m + o) nan ≡ f o ks
   table_at ks o w h =
       let i = index gs ks in
-      get_d_tabulate (product gs * m) _ (i * m + o) nan (omega (arith, entries-within gs ks m w))
+      get_or-tabulate (product gs * m) _ (i * m + o) nan (omega (arith, entries-within gs ks m w))
       ∙ ap₂ f (digits_mod i h) (ap (node_at gs) (digits_div i h) ∙ node-back gs ks w)
 
   -- and no other entry
   pub table-all : (P : Float → Type 0) → ((ks : List ℕ) (o : ℕ) → Within gs ks → o < m → P (f o ks)) → (e : ℕ) → e < product gs * m → P (get_or (table_of gs m f) e nan)
   table-all P h e l =
       let some : 0 < m = first_pos m (product gs) (omega (arith, mul_comm m (product gs))) in
-      subst P (sym (get_d_tabulate (product gs * m) _ e nan l)) (h (node_at gs (e / m)) (e % m) (node-within gs (e / m) ((div-lt_iff_lt-mul some).1 l)) (mod-lt e some))
+      subst P (sym (get_or-tabulate (product gs * m) _ e nan l)) (h (node_at gs (e / m)) (e % m) (node-within gs (e / m) ((div-lt_iff_lt-mul some).1 l)) (mod-lt e some))

@@ -9,7 +9,7 @@ use native.Mathlib.Omega.{arith}
 use lib.Ieee.{Float, nan}
 use lib.ListN.{length, get_or, take}
 use Rattle.lists.specs.Lists.{product}
-use Rattle.lists.proofs.Lists.{length-tabulate, get_d_tabulate}
+use Rattle.lists.proofs.Lists.{length-tabulate, get_or-tabulate}
 use Rattle.layout.specs.declared.MultidimensionalLut.{MultidimensionalLut}
 use Rattle.layout.specs.Order.{index, Within}
 use Rattle.layout.specs.Layout.{IsLayout, ink_sizes, entries}
@@ -109,6 +109,6 @@ module _ (lut : MultidimensionalLut) (is : IsLayout lut) (two : 2 ≤ lut.input_
       slab-place e l =
           let m = lut.output_inks in
           let low : e < product (without place (ink_sizes lut)) * m = omega (arith, total-is) in
-          get_d_tabulate _ _ e nan low
+          get_or-tabulate _ _ e nan low
           ∙ ap (λ (i : ℕ). get_or table i nan) (entry_place (ink_sizes lut) m place k e in_place low)
           ∙ ap (λ (g : ℕ). cut_entry table (run_of lut j) g k e) size-at

@@ -18,7 +18,7 @@ use borrow.Author.Tests.{leb-true, ltb-true, le-leb, lt-ltb, le-ltb}
 use Rattle.binary32.specs.Numbers.{plus_zero, of_whole}
 use Rattle.lists.specs.Lists.{tabulate, every, product}
 use Rattle.layout.specs.Layout.{limit, is_count, place, places, stride}
-use Rattle.lists.proofs.Lists.{and-true, and_left, and_right, every-at, length-tabulate, tabulate-same, set-tabulate, get_d_tabulate, product-drop-le}
+use Rattle.lists.proofs.Lists.{and-true, and_left, and_right, every-at, length-tabulate, tabulate-same, set-tabulate, get_or-tabulate, product-drop-le}
 
 pub count-from : (n : ℕ) → is_count n ≡ true → 1 ≤ n
 unfolding is_count
@@ -42,10 +42,10 @@ module _ {A : Type 0} (n : ℕ) (f : ℕ → A) (unused : A) where
   place-unused i h = simp (le-ltb i n h)
 
   pub places-used : (i : ℕ) (d : A) → n ≤ 16 → i < n → get_or (places n f unused) i d ≡ f i
-  places-used i d h l = get_d_tabulate 16 (place n f unused) i d (omega arith) ∙ place-used i l
+  places-used i d h l = get_or-tabulate 16 (place n f unused) i d (omega arith) ∙ place-used i l
 
   pub places-unused : (i : ℕ) (d : A) → i < 16 → n ≤ i → get_or (places n f unused) i d ≡ unused
-  places-unused i d h l = get_d_tabulate 16 (place n f unused) i d h ∙ place-unused i l
+  places-unused i d h l = get_or-tabulate 16 (place n f unused) i d h ∙ place-unused i l
 
   -- a list of sixteen with those entries is the places
   pub places-are : (xs : List A) (d : A) → length xs ≡ 16 → n ≤ 16 → ((i : ℕ) → i < n → get_or xs i d ≡ f i) → ((i : ℕ) → i < 16 → n ≤ i → get_or xs i d ≡ unused) → xs ≡ places n f unused

@@ -11,7 +11,7 @@ use lib.ListN.{length, get_or, set, length-set}
 use lib.Seq.{get_or-set_same, get_or-set_other, ext_get_or}
 use Rattle.lists.specs.Lists.{tabulate}
 use Rattle.lists.specs.Buffer.{written, written_from, left}
-use Rattle.lists.proofs.Lists.{length-tabulate, get_d_tabulate}
+use Rattle.lists.proofs.Lists.{length-tabulate, get_or-tabulate}
 
 module _ {A : Type 0} (f : ℕ → A) where
   pub length-written : (m : ℕ) (old : List A) → length (written f m old) ≡ length old
@@ -59,7 +59,7 @@ module _ {A : Type 0} (f : ℕ → A) where
   written-whole m old d e =
       ext_get_or d (written f m old) (tabulate m f) (length-written m old ∙ e ∙ sym (length-tabulate m f)) (λ k h.
       let low : k < m = omega (arith, length-written m old) in
-      written_at m old k d low (le_of_eq (sym e)) ∙ sym (get_d_tabulate m f k d low))
+      written_at m old k d low (le_of_eq (sym e)) ∙ sym (get_or-tabulate m f k d low))
 
 -- it depends on the rule below m alone
 pub written_same : {A : Type 0} (f g : ℕ → A) (m : ℕ) (old : List A) → ((k : ℕ) → k < m → f k ≡ g k) → written f m old ≡ written g m old

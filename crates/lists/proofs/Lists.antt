@@ -24,11 +24,11 @@ module _ {A : Type 0} where
   length-tabulate zero f = refl
   length-tabulate (suc k) f = ap suc (length-tabulate k (λ i. f (suc i)))
 
-  pub get_d_tabulate : (k : ℕ) (f : ℕ → A) (i : ℕ) (d : A) → i < k → get_or (tabulate k f) i d ≡ f i
+  pub get_or-tabulate : (k : ℕ) (f : ℕ → A) (i : ℕ) (d : A) → i < k → get_or (tabulate k f) i d ≡ f i
   unfolding tabulate
-  get_d_tabulate zero f i d h = absurd (not-suc-le-zero h)
-  get_d_tabulate (suc k) f zero d h = refl
-  get_d_tabulate (suc k) f (suc i) d h = get_d_tabulate k (λ j. f (suc j)) i d (le_of_suc-le-suc h)
+  get_or-tabulate zero f i d h = absurd (not-suc-le-zero h)
+  get_or-tabulate (suc k) f zero d h = refl
+  get_or-tabulate (suc k) f (suc i) d h = get_or-tabulate k (λ j. f (suc j)) i d (le_of_suc-le-suc h)
 
   pub tabulate-same : (k : ℕ) (f g : ℕ → A) → ((i : ℕ) → i < k → f i ≡ g i) → tabulate k f ≡ tabulate k g
   unfolding tabulate

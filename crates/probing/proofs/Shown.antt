@@ -18,7 +18,7 @@ use Rattle.outcome.proofs.Refused.{refused-first}
 use Rattle.binary32.proofs.Ranges.{share-number, unit-share}
 use Rattle.lists.specs.Lists.{tabulate, some}
 use Rattle.lists.specs.Buffer.{written, left}
-use Rattle.lists.proofs.Lists.{length-tabulate, get_d_tabulate}
+use Rattle.lists.proofs.Lists.{length-tabulate, get_or-tabulate}
 use Rattle.lists.proofs.Buffer.{length-written, written_at}
 use Rattle.layout.specs.declared.MultidimensionalLut.{MultidimensionalLut}
 use Rattle.layout.specs.declared.Laid.{Laid}
@@ -58,7 +58,7 @@ first-written f m old room =
     let len : length (take m (written f m old)) ≡ m = length-take-le m (written f m old) (omega (arith, length-written f m old)) in
     ext_get_or nan (tabulate m f) (take m (written f m old)) (length-tabulate m f ∙ sym len) (λ i h.
     let below : i < m = omega (arith, length-tabulate m f) in
-    get_d_tabulate m f i nan below ∙ sym (get_or-take m (written f m old) i nan below ∙ written_at f m old i nan below room))
+    get_or-tabulate m f i nan below ∙ sym (get_or-take m (written f m old) i nan below ∙ written_at f m old i nan below room))
 
 -- what was read before the layout was asked
 pub record Asked (input bytes : List ℕ) (g n m : ℕ) (laid : Laid) : Type 0 where

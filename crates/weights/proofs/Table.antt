@@ -9,7 +9,7 @@ use lib.Ieee.{binary32, nan_bits}
 use lib.ListN.{get_or}
 use borrow.Author.Tests.{eqb-true, not-true}
 use Rattle.lists.specs.Lists.{tabulate, every}
-use Rattle.lists.proofs.Lists.{length-tabulate, get_d_tabulate, every-at, and_left, and_right}
+use Rattle.lists.proofs.Lists.{length-tabulate, get_or-tabulate, every-at, and_left, and_right}
 use Rattle.weights.specs.Rule.{entry33}
 
 -- an entry is the rule's, and its bits are no NaN's
@@ -44,4 +44,4 @@ unfolding tested
 at_each xs xsₙ bs index h l =
     let test : ℕ → Bool = λ k. right k (get_or xs k 0) (get_or xsₙ k 0) (get_or bs k 0) in
     let here = every-at test (tabulate 256 (λ k. k)) index h (rw (length-tabulate 256 (λ k. k)) l) in
-    parts index _ _ _ (subst (λ (k : ℕ). test k ≡ true) (get_d_tabulate 256 (λ k. k) index 0 l) here)
+    parts index _ _ _ (subst (λ (k : ℕ). test k ≡ true) (get_or-tabulate 256 (λ k. k) index 0 l) here)

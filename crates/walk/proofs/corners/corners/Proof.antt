@@ -9,8 +9,6 @@ use Rattle.walk.proofs.Cornering.{cornered-none, cornered-more}
 use Rattle.walk.proofs.corners.corners.Statement.{statement}
 use Rattle.walk.proofs.corners.corners.Tie as tie
 
--- InvT-loop: Lts.InvT-loop
--- abbrev pub InvT-loop : Type 1 InvT-loop = List.List (Referent.rtF (Referent.fFloat Ieee.binary32)).Denot → Array.Array (Referent.rtF (Referent.fInt Syntax.w64)) 16 .Denot → Array.Array (Referent.rtF (Referent.fFloat Ieee.binary32)) 16 .Denot → Rows.sc-here (Row.sInt Syntax.w64) .Mod → List.List (Referent.rtF (Referent.fInt Syntax.w64)).Denot → Rows.sc-here (Row.sInt Syntax.w64) .Mod → List.List (Referent.rtF (Referent.fFloat Ieee.binary32)).Denot → Rows.whole (Declared.row Plan.the_type) .Mod → Rows.sc-here (Row.sInt Syntax.w64) .Mod → List.List (Referent.rtF (Referent.fFloat Ieee.binary32)).Denot → Rows.sc-here (Row.sInt Syntax.w64) .Mod → Type 0
 abbrev invariant-loop : tie.invariant-loop-c
 invariant-loop t step w left offs count work₀ p c₀ work c = (p ≡ first_three step w) × (c ≤ count) × Cornered (tetra_of (first_three step w)) offs t left c work₀ work
 
