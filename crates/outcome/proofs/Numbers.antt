@@ -83,3 +83,7 @@ module _ {A : Type 0} where
   same_answer (Ok a) (Err f) h agree = absurd (not_done f (sym h))
   same_answer (Err e) (Ok b) h agree = absurd (not_done e h)
   same_answer (Err e) (Err f) h agree = ap Err (same_refusal e f h)
+
+-- two answers without a value
+pub same_done : (x y : Result Unit Refusal) → number_in x ≡ number_in y → x ≡ y
+same_done x y h = same_answer x y h (λ a b p q. refl)
