@@ -1,11 +1,10 @@
 -- Document 01, "Weights for 8-bit codes". Definitions only.
 use Rattle.std.specs.Prelude.{ℕ, ◌+◌, ◌-◌, ◌*◌, ◌/◌, min, cond, eqb, Float, replicate}
 use Rattle.std.specs.Float.{binary32}
-use Rattle.std.specs.Float.Ieee.{sub, mul, of_bits, to_bits}
+use Rattle.std.specs.Float.Ieee.{sub, mul, of_bits}
 use Rattle.lists.specs.Lists.{tabulate}
 use Rattle.binary32.specs.Numbers.{plus_zero, of_whole}
 use Rattle.cell.specs.declared.Cell.{Cell}
-use Rattle.weights.specs.declared.Entry.{Entry}
 use Rattle.weights.specs.declared.Ranged.{Ranged}
 use Rattle.weights.specs.declared.RangedCell.{RangedCell}
 
@@ -25,10 +24,6 @@ cell_of last s index =
 
 unfoldable pub weight_cell : ℕ → ℕ → Cell
 weight_cell g index = cell_of (g - 1) (scale_of (g - 1)) index
-
--- what the 33-point table holds of a code: the two nodes, and the bits of the weight
-unfoldable pub entry33 : ℕ → Entry
-entry33 index = let c = weight_cell 33 index in record { x = c.x; x_n = c.x_n; bits = to_bits binary32 c.w }
 
 -- refused weights are zeros
 abbrev pub zero_cell : Cell
