@@ -1,5 +1,4 @@
 use Rattle.std.proofs.Common.{rules}
-use borrow.Author.Tests.{ne_eqb}
 use Rattle.weights.specs.Rule.{zero_cell, weight_cell, ranged}
 use Rattle.weights.proofs.Made.{made_by}
 use Rattle.weights.proofs.create_ranged_256.Goals as goal
@@ -7,5 +6,6 @@ use Rattle.weights.proofs.create_ranged_256.Goals as goal
 pub returns : goal.returns
 unfolding ranged weight_cell
 returns c =
+    let axis = c.in_ok-axis.ensures.ok in
     let made = made_by _ _ (weight_cell c.args.g) zero_cell 256 (λ i y q l k. search rules) _ c.from_fn.ensures.items in
-    simp (made, ne_eqb _ _ c.if-g-eq0.false)
+    simp (made, axis.0)
