@@ -1,7 +1,7 @@
 -- The inks of an accepted layout, with their filling sizes: they lie within the table, and their answers are those of the table. Assumes nothing.
 use Prim.Native.Nat.{ℕ, zero, suc, ◌+◌, ◌*◌, ◌≤◌}
 use native.Mathlib.Omega.{arith}
-use mathlib.Core.Path.{◌≡◌, refl, sym, ap, ap₂, ◌∙◌}
+use mathlib.Core.Path.{◌≡◌, refl, sym, ap, ap₂, subst, ◌∙◌}
 use mathlib.Core.Bool.{Bool}
 use mathlib.Core.List.{List, [], ◌∷◌}
 use lib.Dec.{ltb}
@@ -15,10 +15,10 @@ use Rattle.lists.proofs.Buffer.{written_same}
 use Rattle.cell.specs.declared.Cell.{Cell}
 use Rattle.cell.specs.Rule.{ink_cell, scale}
 use Rattle.layout.specs.declared.MultidimensionalLut.{MultidimensionalLut}
-use Rattle.layout.specs.Layout.{IsLayout}
+use Rattle.layout.specs.Layout.{IsLayout, entries}
 use Rattle.layout.specs.Order.{Steps}
 use Rattle.layout.proofs.Laws.{inks-from, inks-to, outputs-to, size-from, size-to, filling-within, filling-steps, first-filling}
-use Rattle.lookup.specs.Table.{cells}
+use Rattle.lookup.specs.Table.{cells, answer_with}
 use Rattle.lookup.specs.Idle.{weights_of}
 use Rattle.lookup.specs.Places.{reach, strides, scaled, answer_by, first_inks, Promised, answer_in}
 use Rattle.lookup.proofs.Reach.{reach-total}
@@ -86,3 +86,23 @@ laid-of lut is =
       steps = filling-steps lut is;
       whole = first-filling lut is;
     }
+
+-- ---- the inks of a layout's record, in a table of all its entries
+
+module _ (lut : MultidimensionalLut) (is : IsLayout lut) (xs : List Float) (as_many : length xs ≡ lut.input_inks) (table : List Float) (enough : entries lut ≤ length table)
+    (cs : List Cell) (inks-are : cs ≡ first_inks lut.grid_filling_size lut.grid_sizes xs (length xs)) where
+  abbrev by-inputs : ℕ → Type 0
+  by-inputs n = Promised lut.grid_filling_size lut.grid_sizes n lut.output_inks × (product (last_first n lut.grid_sizes) * lut.output_inks ≤ length table)
+
+  ready : by-inputs (length xs)
+  ready = subst by-inputs (sym as_many) (laid-of lut is, enough)
+
+  pub record-reach : reach cs + lut.output_inks ≤ length table
+  record-reach = inks-reach _ _ xs _ ready.0 table ready.1 _ refl cs inks-are
+
+  pub record-done : (skip : Float → Bool) (old now : List Float) → now ≡ written (answer_by skip table cs) lut.output_inks old
+      → now ≡ written (answer_with skip lut table xs) lut.output_inks old
+  unfolding answer_with
+  record-done skip old now w =
+      inks-done _ _ xs _ ready.0 table ready.1 _ refl skip cs inks-are old now w
+      ∙ ap (λ (n : ℕ). written (answer_in skip (last_first n lut.grid_sizes) lut.output_inks table xs) lut.output_inks old) as_many

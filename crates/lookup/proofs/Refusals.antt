@@ -4,14 +4,16 @@ use mathlib.Core.Path.{◌≡◌, refl, sym, ap, ◌∙◌}
 use mathlib.Core.Bool.{Bool, true, cond, not}
 use mathlib.Core.List.{List}
 use lib.Ieee.{Float}
-use lib.ListN.{length}
+use lib.ListN.{length, get_or}
 use borrow.Author.Tests.{lt-ltb, le-ltb}
 use Rattle.outcome.specs.Outcome.{Decides}
 use Rattle.lists.specs.Lists.{product}
+use Rattle.lists.specs.Buffer.{left}
 use Rattle.lists.proofs.Buffer.{unwritten, length-left}
 use Rattle.layout.specs.declared.MultidimensionalLut.{MultidimensionalLut}
-use Rattle.layout.specs.Layout.{IsLayout, ink_sizes}
+use Rattle.layout.specs.Layout.{IsLayout, ink_sizes, entries}
 use Rattle.layout.specs.Lengths.{length_refusal}
+use Rattle.layout.proofs.Laws.{first-filling}
 use Rattle.layout.proofs.Lengths.{Passed, refused-by, passed}
 use Rattle.lookup.specs.Table.{answer_with, nan_refusal, refusal, refusal_by_sizes, LookedWith, LookedBySizesWith}
 use Rattle.lookup.specs.Places.{answer_in, Settled, Answered}
@@ -51,6 +53,33 @@ module _ (skip : Float → Bool) (lut : MultidimensionalLut) (table inputs old :
         number = answered.number ∙ ap (λ (b : Bool). refusal b lut (length table) inputs (length old)) (sym is);
         entries = answered.entries;
       }
+
+-- after the tests of the record and of the lengths, whose number is r
+module _ (skip : Float → Bool) (lut : MultidimensionalLut) (table inputs old : List Float) (laid : Bool) (decides : Decides laid (IsLayout lut)) (is : laid ≡ true)
+    (total : ℕ) (total-is : total ≡ get_or lut.grid_filling_size 0 0 * get_or lut.grid_sizes 0 0)
+    (r : ℕ) (by-total : r ≡ length_refusal total lut.input_inks (length table) (length inputs) 0) where
+  -- the total as the definition has it
+  number : r ≡ length_refusal (entries lut) lut.input_inks (length table) (length inputs) 0
+  number = by-total ∙ ap (λ (t : ℕ). length_refusal t lut.input_inks (length table) (length inputs) 0) (total-is ∙ first-filling lut (decides.holds is))
+
+  looked-then : (k : ℕ) (now : List Float) → Answered skip (ink_sizes lut) lut.input_inks lut.output_inks table inputs old k now → LookedWith skip lut table inputs old k now
+  looked-then = looked-answered skip lut table inputs old laid decides is
+
+  pub looked-lengths : (r ≡ 0 → ⊥) → LookedWith skip lut table inputs old r old
+  looked-lengths some = looked-then r old (answered-refused skip (ink_sizes lut) _ _ table inputs old r number some)
+
+  module _ (none : r ≡ 0) where
+    pub looked-passed : Passed true (entries lut) lut.input_inks (length table) (length inputs)
+    looked-passed = answered-passed skip (ink_sizes lut) _ _ table inputs old r number none
+
+    pub looked-short : length old < lut.output_inks → LookedWith skip lut table inputs old 8 old
+    looked-short short = looked-then 8 old (answered-short skip (ink_sizes lut) _ _ table inputs old r number none short)
+
+    pub looked-written : lut.output_inks ≤ length old → (k : ℕ) (now : List Float) → k ≡ nan_refusal inputs
+        → now ≡ left k (answer_with skip lut table inputs) lut.output_inks old → LookedWith skip lut table inputs old k now
+    unfolding answer_with
+    looked-written room k now is-nan entries =
+        looked-then k now (answered-blended skip (ink_sizes lut) _ _ table inputs old r number none room k now (record { number = is-nan; entries = entries }))
 
 -- ---- the buffer keeps its length
 

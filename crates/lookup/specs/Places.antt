@@ -21,15 +21,6 @@ sum (k ∷ ks) = k + sum ks
 abbrev pub within : List Float → ℕ → Grid
 within part o ks = get_or part (sum ks + o) nan
 
--- ink i, counted from 0, of the lists of lower distances, upper distances and weights
-abbrev pub cell_at : List ℕ → List ℕ → List Float → ℕ → Cell
-cell_at low high w i = record { x = get_or low i 0; x_n = get_or high i 0; w = get_or w i nan }
-
--- the first n inks, last ink first
-abbrev pub cells_at : List ℕ → List ℕ → List Float → ℕ → List Cell
-cells_at low high w zero = []
-cells_at low high w (suc n) = cell_at low high w n ∷ cells_at low high w n
-
 -- no distance that cells lead to is larger
 abbrev pub reach : List Cell → ℕ
 reach [] = 0

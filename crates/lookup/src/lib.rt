@@ -4,36 +4,35 @@
 mod place;
 mod value;
 
-ghost use Rattle.std.specs.Prelude.{◌≡◌, ◌*◌, ◌≤◌, length};
-ghost use Rattle.lists.specs.Lists.{last_first, product};
-ghost use Rattle.lookup.specs.Places.{Promised, SettledIn};
-ghost use Rattle.lookup.specs.Table.{Looked, LookedBySizes};
+ghost use Rattle.std.specs.Prelude.{◌≡◌, ◌≤◌, length};
+ghost use Rattle.lists.specs.Buffer.{left};
+ghost use Rattle.layout.specs.Layout.{IsLayout, entries};
+ghost use Rattle.lookup.specs.Table.{answer_at, nan_refusal, Looked, LookedBySizes};
 
+use cell::Cell;
 use layout::MultidimensionalLut;
 
-// The m answers, in a grid whose sizes and filling sizes are lent, or 16 for a NaN input: no answer is written before
-// every input has its cell.
-fn write(
-    filling: &[u32; 16],
-    sizes: &[u8; 16],
-    m: usize,
-    table: &[f32],
-    inputs: &[f32],
-    answer: &mut [f32],
-) -> u32
-    requires promised { Promised filling.now sizes.now (length inputs.now) m }
-    requires m_in_bounds { product (last_first (length inputs.now) sizes.now) * m ≤ length table.now }
-    requires room { m ≤ length answer.old }
-    ensures { SettledIn sizes.now m table.now inputs.now answer.old result answer.new }
+// The m answers, or 16 for a NaN input: no answer is written before every input has its cell.
+fn write(lut: &MultidimensionalLut, table: &[f32], inputs: &[f32], answer: &mut [f32]) -> u32
+    requires layout { IsLayout lut.now }
+    requires as_many { length inputs.now ≡ lut.now.input_inks }
+    requires few { length inputs.now ≤ 16 }
+    requires enough { entries lut.now ≤ length table.now }
+    requires room { lut.now.output_inks ≤ length answer.old }
+    ensures number { result ≡ nan_refusal inputs.now }
+    ensures entries { answer.new ≡ left result (answer_at lut.now table.now inputs.now) lut.now.output_inks answer.old }
 {
-    let mut low = [0usize; 16];
-    let mut high = [0usize; 16];
-    let mut w = [0.0f32; 16];
-    let refused = place::place(filling, sizes, inputs, &mut low, &mut high, &mut w);
+    let mut cells = [Cell {
+        x: 0,
+        x_n: 0,
+        w: 0.0,
+    }; 16];
+    let inks = &mut cells[..inputs.len()];
+    let refused = place::place(lut, inputs, inks);
     if refused != 0 {
         return refused;
     }
-    value::each(table, &low, &high, &w, inputs.len(), m, answer);
+    value::each(table, inks, lut.output_inks, answer);
     0
 }
 
@@ -53,9 +52,7 @@ pub fn lookup(lut: MultidimensionalLut, table: &[f32], inputs: &[f32], answer: &
     if answer.len() < m {
         return 8;
     }
-    let filling = lut.grid_filling_size;
-    let sizes = lut.grid_sizes;
-    write(&filling, &sizes, m, table, inputs, answer)
+    write(&lut, table, inputs, answer)
 }
 
 // Lays out, then looks up by the record: 1, 2, 3, 5, then 6, 7, 8, 16.
