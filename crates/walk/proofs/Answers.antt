@@ -1,9 +1,9 @@
 -- Block by block: a block's outputs are those of the whole, and what is given so far. Assumes nothing.
 use Prim.Native.Nat.{ℕ, ◌+◌, ◌-◌, ◌*◌, ◌^◌, ◌<◌, ◌≤◌}
 use native.Mathlib.Omega.{arith}
-use native.Mathlib.Nat.{zero-add, not-suc-le-zero, pow-le-pow_right, mul-le-mul_right, zero-lt-suc}
+use native.Mathlib.Nat.{zero-add, pow-le-pow_right, mul-le-mul_right, zero-lt-suc}
 use native.Mathlib.Decide.{dec_lt}
-use mathlib.Core.Path.{◌≡◌, refl, ap, sym, subst, fun_ext, ◌∙◌}
+use mathlib.Core.Path.{◌≡◌, ap, sym, subst, fun_ext, ◌∙◌}
 use mathlib.Core.List.{List, [], ◌++◌}
 use lib.Ieee.{Float, nan}
 use lib.ListN.{length, get_or, take, drop}
@@ -42,9 +42,6 @@ pub record Upto (f : ℕ → Float) (o m : ℕ) (old now : List Float) : Type 0 
   pub answers : (k : ℕ) → k < o → k < m → get_or now k nan ≡ f k
 
 module _ (f : ℕ → Float) (m : ℕ) (old : List Float) where
-  pub upto-none : Upto f 0 m old old
-  upto-none = record { most = omega arith; room = refl; answers = λ k h. absurd (not-suc-le-zero h) }
-
   pub upto-more : (o : ℕ) (now next : List Float) (g : ℕ → Float) → Upto f o m old now → o < m → Given g o m now next → ((j : ℕ) → j < 4 → o + j < m → g j ≡ f (o + j)) → Upto f (o + 4) m old next
   upto-more o now next g done less given same =
       record {
@@ -63,6 +60,10 @@ module _ (f : ℕ → Float) (m : ℕ) (old : List Float) where
 
   pub upto_all : (o : ℕ) (now : List Float) → Upto f o m old now → m ≤ o → Gives f m old now
   upto_all o now done all = record { room = done.room; answers = λ k h. done.answers k (omega arith) h }
+
+  -- the last block
+  pub upto-last : (o : ℕ) (now next : List Float) (g : ℕ → Float) → Upto f o m old now → o < m → Given g o m now next → ((j : ℕ) → j < 4 → o + j < m → g j ≡ f (o + j)) → m ≤ o + 4 → Gives f m old next
+  upto-last o now next g done less given same = upto_all (o + 4) next (upto-more o now next g done less given same)
 
 -- a block of the part from o on, given
 pub block-given : (t : List Float) (cs : List Cell) (o m : ℕ) (f : Four) → Holds (answer (take (length t - o) (drop o t)) cs) (m - o) f → (j : ℕ) → j < 4 → o + j < m → lane f j ≡ answer t cs (o + j)

@@ -52,11 +52,6 @@ pub stored : (s : List Float) (i : ℕ) (f : Four) → set (set (set (set s i f.
 unfolding written_from
 stored s i f = rw (add-zero i) refl
 
--- three stores
-pub three-stored : (s : List Float) (i : ℕ) (f : Four) → set (set (set s i f.a) (i + 1) f.b) (i + 2) f.c ≡ written_from i (lane f) 3 s
-unfolding written_from
-three-stored s i f = rw (add-zero i) refl
-
 -- ---- a block given
 
 pub given-block : (f : ℕ → Float) (o n m : ℕ) (old now : List Float) → now ≡ written_from o f n old → o + n ≤ length old → ((k : ℕ) → k < 4 → o + k < m → k < n) → Given f o m old now
@@ -79,10 +74,6 @@ room-4 s i x y z h = let e : length (set (set (set s i x) (i + 1) y) (i + 2) z) 
 
 pub room-all : (s : List Float) (i : ℕ) (f : Four) → length (set (set (set (set s i f.a) (i + 1) f.b) (i + 2) f.c) (i + 3) f.d) ≡ length s
 room-all s i f = simp length-set
-
-pub given-none : (f : ℕ → Float) (o : ℕ) (old : List Float) → old ≡ written_from o f 0 old
-unfolding written_from
-given-none f o old = refl
 
 pub given-next : (f : ℕ → Float) (o i : ℕ) (old now : List Float) → now ≡ written_from o f i old → set now (o + i) (f i) ≡ written_from o f (i + 1) old
 given-next f o i old now is = ap (λ (l : List Float). set l (o + i) (f i)) is ∙ written-from-next o f i old

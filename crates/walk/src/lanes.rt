@@ -83,10 +83,8 @@ pub(crate) fn give(f: Four, o: usize, m: usize, out: &mut [f32])
         return;
     }
     let lanes = [f.a, f.b, f.c, f.d];
-    let mut i = 0;
-    while o + i < m {
+    for i in 0..m - o {
         out[o + i] = lanes[i];
-        i += 1;
     }
 }
 
