@@ -8,8 +8,6 @@ use mathlib.Core.List.{List, [], ◌++◌}
 use lib.Ieee.{Float, nan}
 use lib.ListN.{length, get_or, take, drop}
 use lib.Seq.{get_or-drop}
-use Rattle.lists.specs.Buffer.{written}
-use Rattle.lists.proofs.Buffer.{length-written, written_at}
 use Rattle.cell.specs.declared.Cell.{Cell}
 use Rattle.lookup.specs.Lookup.{Grid, lookup}
 use Rattle.lookup.specs.Places.{sum, reach, answer}
@@ -17,9 +15,8 @@ use Rattle.walk.specs.Walk.{above, weights_at, folded, distance, Cornered, Folde
 use Rattle.lookup.proofs.Part.{from-drop}
 use Rattle.walk.proofs.Above.{above-answer, above-above, reach-over}
 use Rattle.walk.specs.declared.Four.{Four}
-use Rattle.walk.specs.Blocks.{lane, four_of, at, Holds, Gives, Given}
+use Rattle.walk.specs.Blocks.{lane, Lanes, at, Holds, Gives, Given}
 use Rattle.walk.specs.Steps.{Weighed, tetra_of, first_three, step_cell, steps_at}
-use Rattle.walk.proofs.Blocks.{lane_of}
 use Rattle.walk.proofs.Tetrahedron.{plan-answers}
 use Rattle.walk.proofs.Folding.{folded-above}
 use Rattle.walk.proofs.Steps.{split, weights-at, length-steps, distance-any, distance-reach}
@@ -72,7 +69,7 @@ block-given t cs o m f holds j h less = holds j h (omega arith) ∙ shifted t o 
 -- ---- all outputs at once
 
 -- one block holds them
-pub block-gives : (f : ℕ → Float) (m : ℕ) (old now : List Float) (g : Four) → m ≤ 4 → Given (lane g) 0 m old now → ((j : ℕ) → j < 4 → lane g j ≡ f j) → Gives f m old now
+pub block-gives : (f : ℕ → Float) (m : ℕ) (old now : List Float) (g : Four) → m ≤ 4 → Given (lane g) 0 m old now → Lanes f g → Gives f m old now
 block-gives f m old now g few given same =
     record {
       room = given.room;
@@ -80,11 +77,6 @@ block-gives f m old now g few given same =
           let zeroth = zero-add o in
           ap (λ (i : ℕ). get_or now i nan) (sym zeroth) ∙ given.block o (omega arith) (subst (λ (i : ℕ). i < m) (sym zeroth) h) ∙ same o (omega arith);
     }
-
--- what was written is given
-pub written-gives : (f : ℕ → Float) (m : ℕ) (old now : List Float) → m ≤ length old → now ≡ written f m old → Gives f m old now
-written-gives f m old now room is =
-    record { room = ap length is ∙ length-written f m old; answers = λ o h. ap (λ (l : List Float). get_or l o nan) is ∙ written_at f m old o nan h room }
 
 -- ---- the corners of any inks, folded
 
@@ -94,10 +86,9 @@ module _ (three : ℕ → List Float → Float) (step : List ℕ) (w : List Floa
 
   pub folded-block : (count : ℕ) → count ≡ 2 ^ k → (part : List Float) (left : ℕ) (old filled done : List Float)
       → Cornered three offs part left count old filled → Folded (weights_at w first k) filled done
-      → (f : Four) → f ≡ four_of (λ i. at done (0 + i)) → Holds (λ j. above (three j) (steps_at step w first k) part) left f
-  folded-block count is part left old filled done cornered fold f loaded-is j h less =
-      ap (λ (q : Four). lane q j) loaded-is
-      ∙ lane_of (λ i. at done (0 + i)) j h
+      → (f : Four) → Lanes (λ i. at done (0 + i)) f → Holds (λ j. above (three j) (steps_at step w first k) part) left f
+  folded-block count is part left old filled done cornered fold f loaded j h less =
+      loaded j h
       ∙ ap (at done) (zero-add j)
       ∙ fold.answers j h
       ∙ ap (λ (ws : List Float). folded 4 ws (at filled) j) (sym (weights-at step w first k))
@@ -175,12 +166,3 @@ pub blocks-fit : (most k : ℕ) → k ≤ most → 2 ^ k * 4 ≤ 2 ^ most * 4
 blocks-fit most k few = mul-le-mul_right 4 (corners-fit most k few)
 
 -- ---- all counts of inks
-
-pub inks-on : (step : List ℕ) (w : List Float) (a n : ℕ) → a ≤ n → steps_at step w 0 (n - a + a) ≡ steps_at step w 0 n
-inks-on step w a n h = let e : n - a + a ≡ n = omega arith in ap (steps_at step w 0) e
-
-pub gives_as : (t : List Float) (cs cs' : List Cell) (m : ℕ) (old now : List Float) → cs ≡ cs' → Gives (answer t cs) m old now → Gives (answer t cs') m old now
-gives_as t cs cs' m old now e g = subst (λ (l : List Cell). Gives (answer t l) m old now) e g
-
-pub reach-as : (cs cs' : List Cell) (m n : ℕ) → cs ≡ cs' → reach cs' + m ≤ n → reach cs + m ≤ n
-reach-as cs cs' m n e h = subst (λ (l : List Cell). reach l + m ≤ n) (sym e) h
