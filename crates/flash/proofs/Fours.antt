@@ -1,8 +1,8 @@
 -- Four bytes and their word. `joined_of`: the word of four bytes; `word-by`: the word at a place; `joined_back`: a word from its bytes; `byte-back`: a byte from its
--- word; `word_small`: how large a word is; `swapped`, `put-byte`: a word as the library takes and puts it. Assumes nothing.
+-- word; `word_small`: how large a word is; `put-byte`: its bytes as the library puts them. Assumes nothing.
 use Rattle.std.proofs.Common.{◌≡◌, ℕ, zero, suc, ◌+◌, ◌*◌, ◌/◌, ◌%◌, ◌<◌, List, [], ◌∷◌, get_or, sym, refl, ap, ◌∙◌, add-zero, div-one, arith}
 use native.Mathlib.Nat.{div-div-eq-div-mul}
-use Rattle.std.specs.Int.{w32, to_be_bytes, swap_bytes}
+use Rattle.std.specs.Int.{w32, to_be_bytes}
 use Rattle.lists.specs.Lists.{tabulate}
 use Rattle.lists.specs.Bytes.{big_endian}
 use Rattle.lists.proofs.Lists.{tabulate-same}
@@ -82,16 +82,7 @@ pub word_same : (xs ys : List ℕ) (a b : ℕ) → ((i : ℕ) → i < 4 → get_
 unfolding word_at
 word_same xs ys a b same = ap big_endian (tabulate-same 4 (λ i. get_or xs (a + i) 0) (λ i. get_or ys (b + i) 0) same)
 
--- ---- as the library takes a word, last byte first and swapped, and as it puts one
-
-pub swapped : (a b c d r : ℕ) → a < 256 → b < 256 → c < 256 → d < 256 → r ≡ a + b * 256 + c * 65_536 + d * 16_777_216
-    → swap_bytes w32 r ≡ a * 16_777_216 + b * 65_536 + c * 256 + d
-swapped a b c d r fa fb fc fd is =
-    let last : r % 256 ≡ a = omega arith in
-    let third : r / 256 % 256 ≡ b = omega arith in
-    let second : r / 65_536 % 256 ≡ c = omega arith in
-    let first : r / 16_777_216 % 256 ≡ d = omega arith in
-    omega arith
+-- ---- as the library puts a word
 
 pub put-byte : (w i : ℕ) → i < 4 → get_or (to_be_bytes w32 w) i 0 ≡ byte_of w i
 unfolding byte_of

@@ -1,23 +1,14 @@
 // Words of four bytes, the first counting most.
 ghost use Rattle.std.specs.Prelude.{◌≡◌, ◌+◌, ◌*◌, ◌≤◌, length};
-ghost use Rattle.std.specs.Int.{w32, swap_bytes};
 ghost use Rattle.lists.specs.Buffer.{written_from};
 ghost use Rattle.flash.specs.File.{word_at, byte_of, check_of};
-
-// The word at a place with its bytes in the other order: of this the compiler makes one load.
-fn swapped_word(file: &[u8], at: usize) -> u32
-    requires { at + 4 ≤ length file.now }
-    ensures { swap_bytes w32 result ≡ word_at file.now at }
-{
-    u32::from_le_bytes([file[at], file[at + 1], file[at + 2], file[at + 3]])
-}
 
 // The word at a place.
 pub(crate) fn word(file: &[u8], at: usize) -> u32
     requires { at + 4 ≤ length file.now }
     ensures { result ≡ word_at file.now at }
 {
-    swapped_word(file, at).swap_bytes()
+    u32::from_be_bytes([file[at], file[at + 1], file[at + 2], file[at + 3]])
 }
 
 // Writes a word at a place.
