@@ -6,18 +6,12 @@ ghost use Rattle.flash.specs.Refusals.{zeros, block_refusal, head_used, body_use
 
 use crate::words;
 
-// Whether `count` bytes from a place on are all 0: their sum is. Without an early exit the compiler adds many at once.
+// Whether `count` bytes from a place on are all 0. Without an early exit the compiler takes many at once.
 fn all_zero(file: &[u8], from: usize, count: usize) -> bool
-    requires { (from + count ≤ length file.now) × (count ≤ 512) }
+    requires { from + count ≤ length file.now }
     ensures { result ≡ zeros file.now from count }
 {
-    let mut sum: usize = 0;
-    let mut i: usize = 0;
-    while i < count {
-        sum += file[from + i] as usize;
-        i += 1;
-    }
-    sum == 0
+    file[from..from + count].iter().fold(0, |any, b| any | *b) == 0
 }
 
 // The block at a place: its check 18, its number 19, its filling from byte `used` on 20.
@@ -41,50 +35,35 @@ pub(crate) fn block_refusal(file: &[u8], at: usize, number: u32, used: usize) ->
 pub(crate) fn head_used(n: usize) -> usize
     ensures { (result ≡ head_used n) × (result ≤ 22) }
 {
-    if n < 16 {
-        return 6 + n;
-    }
-    22
+    6 + n.min(16)
 }
 
 // How many blocks hold that many entries.
 pub(crate) fn blocks_for(total: usize) -> usize
-    requires { total ≤ limit }
-    ensures { result ≡ blocks_for total }
+    ensures value { result ≡ blocks_for total }
+    ensures few { 126 * result ≤ total + 125 }
 {
-    (total + 125) / 126
-}
-
-// The entries in a block, where `rest` are left at its start.
-pub(crate) fn at_most_126(rest: usize) -> usize
-    ensures { result ≡ min 126 rest }
-{
-    if rest < 126 {
-        return rest;
-    }
-    126
+    total.div_ceil(126)
 }
 
 // Where the filling of a later block begins, where `rest` entries are left at its start.
 fn body_used(rest: usize) -> usize
     ensures { (result ≡ body_used rest) × (result ≤ 508) }
 {
-    4 + 4 * at_most_126(rest)
+    4 + 4 * rest.min(126)
 }
 
 // The blocks after block 0 in turn.
 fn body_refusal(file: &[u8], total: usize, count: usize) -> u32
-    requires { (512 * (1 + count) ≤ length file.now) × (count ≡ blocks_for total) × (total ≤ limit) }
+    requires { (512 * (1 + count) ≤ length file.now) × (126 * count ≤ total + 125) × (total ≤ limit) }
     ensures { result ≡ body_refusal file.now total count }
 {
-    let mut k: usize = 0;
-    while k < count {
+    for k in 0..count {
         let used = body_used(total - 126 * k);
         let refusal = block_refusal(file, 512 * (k + 1), (k + 1) as u32, used);
         if refusal != 0 {
             return refusal;
         }
-        k += 1;
     }
     0
 }

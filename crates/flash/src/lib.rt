@@ -14,6 +14,7 @@ ghost use Rattle.flash.specs.Read.{FileLaid, TableRead};
 ghost use Rattle.flash.specs.Written.{TableWritten, FileWritten};
 ghost use Rattle.flash.specs.BySizes.{TableFiled};
 
+use blocks::Head;
 use layout::{Laid, MultidimensionalLut};
 
 // The bytes of a file of so many entries.
@@ -58,9 +59,9 @@ pub fn read_table(file: &[u8], bits: &mut [u32]) -> Laid
 }
 
 // Writes the file of a layout with so many entries: checks 6 and 8.
-fn write_file(n: u8, m: u8, sizes: [u8; 16], total: usize, bits: &[u32], file: &mut [u8]) -> u32
+fn write_file(head: &Head, total: usize, bits: &[u32], file: &mut [u8]) -> u32
     requires { total ≤ limit }
-    ensures { FileWritten sizes n m total bits.now file.old result file.new }
+    ensures { FileWritten head.now.sizes head.now.n head.now.m total bits.now file.old result file.new }
 {
     if bits.len() < total {
         return 6;
@@ -68,7 +69,7 @@ fn write_file(n: u8, m: u8, sizes: [u8; 16], total: usize, bits: &[u32], file: &
     if (file.len() as u64) < file_length(total as u32) {
         return 8;
     }
-    blocks::put_all(n, m, sizes, &bits[..total], file);
+    blocks::put_all(head, &bits[..total], file);
     0
 }
 
@@ -84,7 +85,8 @@ pub fn write_table(lut: MultidimensionalLut, bits: &[u32], file: &mut [u8]) -> u
     let n = lut.input_inks as u8;
     let m = lut.output_inks as u8;
     let sizes = lut.grid_sizes;
-    write_file(n, m, sizes, total, bits, file)
+    let head = Head { n, m, sizes };
+    write_file(&head, total, bits, file)
 }
 
 // The sizes of the n inks in use, then zeros.
@@ -93,11 +95,7 @@ fn used_sizes(sizes: &[u8; 16], n: usize) -> [u8; 16]
     ensures { result ≡ written (λ i. slice_index sizes.now i) n (replicate 16 0) }
 {
     let mut used = [0u8; 16];
-    let mut i: usize = 0;
-    while i < n {
-        used[i] = sizes[i];
-        i += 1;
-    }
+    used[..n].copy_from_slice(&sizes[..n]);
     used
 }
 
@@ -111,12 +109,10 @@ pub fn write_by_sizes(sizes: &[u8; 16], n: usize, m: usize, bits: &[u32], file: 
         return refusal;
     }
     let total = (filling[0] as u64) * (sizes[0] as u64);
-    write_file(
-        n as u8,
-        m as u8,
-        used_sizes(sizes, n),
-        total as usize,
-        bits,
-        file,
-    )
+    let head = Head {
+        n: n as u8,
+        m: m as u8,
+        sizes: used_sizes(sizes, n),
+    };
+    write_file(&head, total as usize, bits, file)
 }
