@@ -1,4 +1,3 @@
-pub mod Stores
 pub mod Digits
 pub mod Shown
 pub mod Unique

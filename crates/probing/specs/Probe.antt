@@ -4,7 +4,7 @@ use Rattle.binary32.specs.Numbers.{unit_of}
 use Rattle.outcome.specs.Outcome.{or_else}
 use Rattle.lists.specs.Lists.{tabulate}
 use Rattle.layout.specs.declared.Laid.{Laid}
-use Rattle.layout.specs.Layout.{laid_of}
+use Rattle.layout.specs.Layout.{laid_of, IsLayout}
 use Rattle.lookup.specs.Table.{answer_at, refusal}
 use Rattle.probing.specs.Text.{report}
 
@@ -29,6 +29,13 @@ probe_output input =
     let n = get_or bytes 1 0 in
     let rest = drop 3 bytes in
     shown (laid_of (replicate 16 (get_or bytes 0 0)) n (get_or bytes 2 0)) (map code_of (take n rest)) (map code_of (drop n rest))
+
+-- what is said of the layout that the first bytes ask for: where it is accepted, as many inks as the second byte says, and few
+pub record Asked (bytes : List ℕ) (laid : Laid) : Type 0 where
+  pub answer : laid ≡ laid_of (replicate 16 (get_or bytes 0 0)) (get_or bytes 1 0) (get_or bytes 2 0)
+  pub layout : laid.refusal ≡ 0 → IsLayout laid.lut
+  pub inks : laid.refusal ≡ 0 → (laid.lut.input_inks ≡ get_or bytes 1 0) × (laid.lut.input_inks ≤ 15)
+  pub outputs : laid.refusal ≡ 0 → laid.lut.output_inks ≤ 15
 
 -- what `probed` owes: r bytes at the start of the buffer, which was `old`, are the output, and nothing past them changed
 pub record Probed (input old : List ℕ) (r : ℕ) (now : List ℕ) : Type 0 where

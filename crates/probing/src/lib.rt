@@ -6,29 +6,10 @@ mod units;
 
 ghost use Rattle.std.specs.Prelude.{◌≡◌, map, ◌≤◌, length, take, drop};
 ghost use Rattle.lookup.specs.Table.{Looked};
-ghost use Rattle.probing.specs.Probe.{code_of, Probed};
+ghost use Rattle.probing.specs.Probe.{code_of, Asked, probe_output, Probed};
 
-use layout::MultidimensionalLut;
-
-// The first bytes, up to a count.
-fn first(bytes: &[u8], count: usize) -> &[u8]
-    ensures { result.now ≡ take count bytes.now }
-{
-    if count < bytes.len() {
-        return &bytes[..count];
-    }
-    bytes
-}
-
-// The bytes from a place on.
-fn from(bytes: &[u8], place: usize) -> &[u8]
-    ensures { result.now ≡ drop place bytes.now }
-{
-    if place < bytes.len() {
-        return &bytes[place..];
-    }
-    &bytes[..0]
-}
+use layout::{Laid, MultidimensionalLut};
+use text::Report;
 
 // A lookup whose inputs are the ink codes and whose table is the table bytes.
 fn looked(lut: MultidimensionalLut, codes: &[u8], table: &[u8], answers: &mut [f32]) -> u32
@@ -37,33 +18,61 @@ fn looked(lut: MultidimensionalLut, codes: &[u8], table: &[u8], answers: &mut [f
     ensures { Looked lut (map code_of table.now) (map code_of codes.now) answers.old result answers.new }
 {
     let mut inputs = [0.0f32; 15];
-    units::units(codes, &mut inputs);
     let mut entries = [0.0f32; 16384];
-    units::units(table, &mut entries);
-    let n = codes.len();
-    let count = table.len();
-    lookup::lookup(lut, &entries[..count], &inputs[..n], answers)
+    lookup::lookup(
+        lut,
+        units::units(table, &mut entries),
+        units::units(codes, &mut inputs),
+        answers,
+    )
+}
+
+// The bytes up to a place, and those from it on.
+fn split(bytes: &[u8], place: usize) -> (&[u8], &[u8])
+    ensures before { result.0.now ≡ take place bytes.now }
+    ensures after { result.1.now ≡ drop place bytes.now }
+    ensures few { (length result.0.now ≤ place) × (length result.1.now ≤ length bytes.now) }
+{
+    bytes.split_at(place.min(bytes.len()))
+}
+
+// The layout that the first three bytes ask for: a size for all inks, how many inks, and how many outputs.
+fn asked(bytes: &[u8]) -> Laid
+    ensures { Asked bytes.now result }
+{
+    let g = lists::byte_at(bytes, 0);
+    let n = lists::byte_at(bytes, 1) as usize;
+    let m = lists::byte_at(bytes, 2) as usize;
+    layout::layout([g; 16], n, m)
+}
+
+// What the probe prints for the input.
+fn reported(input: &[u8]) -> Report
+    ensures { result ≡ probe_output input.now }
+{
+    let (bytes, _) = split(input, 16384);
+    let laid = asked(bytes);
+    let refusal = laid.refusal;
+    if refusal != 0 {
+        return Report::refused(refusal);
+    }
+    let lut = laid.lut;
+    let (_, rest) = split(bytes, 3);
+    let (codes, table) = split(rest, lut.input_inks);
+    let mut answers = [0.0f32; 15];
+    let number = looked(lut, codes, table, &mut answers);
+    if number != 0 {
+        return Report::refused(number);
+    }
+    Report::accepted(&answers[..lut.output_inks])
 }
 
 // Writes what the probe prints for the input to the start of `out`, and answers how many bytes that is.
 pub fn probed(input: &[u8], out: &mut [u8; 141]) -> usize
     ensures { Probed input.now out.old result out.new }
 {
-    let bytes = first(input, 16384);
-    let g = lists::byte_at(bytes, 0);
-    let n = lists::byte_at(bytes, 1) as usize;
-    let m = lists::byte_at(bytes, 2) as usize;
-    let laid = layout::layout([g; 16], n, m);
-    let refusal = laid.refusal;
-    if refusal != 0 {
-        return text::refused(refusal, out);
-    }
-    let rest = from(bytes, 3);
-    let mut answers = [0.0f32; 15];
-    let lut = laid.lut;
-    let number = looked(lut, first(rest, n), from(rest, n), &mut answers);
-    if number != 0 {
-        return text::refused(number, out);
-    }
-    text::accepted(&answers[..m], out)
+    let report = reported(input);
+    let text = report.as_slice();
+    out[..text.len()].copy_from_slice(text);
+    text.len()
 }

@@ -1,107 +1,120 @@
-// A report as text, in ASCII. Each function writes at a place of a buffer and answers the place after what it wrote.
-ghost use Rattle.std.specs.Prelude.{◌+◌, ◌*◌, ◌≤◌, ◌<◌, map, [], ◌∷◌, length};
-ghost use Rattle.probing.specs.Text.{blank, decimal_of, bits_of, after_blanks, spaced, head_of, report};
-ghost use Rattle.probing.specs.Put.{Put};
+// A report as text, in ASCII, as it is written.
+ghost use Rattle.std.specs.Prelude.{◌≡◌, ℕ, ◌+◌, ◌-◌, ◌*◌, ◌≤◌, ◌<◌, List, [], ◌∷◌, ◌++◌, map, length, take};
+ghost use Rattle.probing.specs.Text.{decimal_of, bits_of, spaced, head_of, report};
 
-fn put(out: &mut [u8], at: usize, text: &[u8]) -> usize
-    requires { at + length text.now ≤ length out.old }
-    ensures { Put out.old at text.now result out.new }
-{
-    let mut i = 0;
-    while i < text.len() {
-        out[at + i] = text[i];
-        i += 1;
+use std::marker::Model;
+
+// The first `len` of the bytes. The longest report is that of fifteen answers.
+#[derive(Drop)]
+pub(crate) struct Report {
+    bytes: [u8; 141],
+    len: usize,
+}
+
+// Clauses see the bytes that are written.
+impl Model for Report {
+    ghost Value = { List ℕ };
+
+    ghost view = { λ r. take r.len r.bytes };
+
+    ghost invariant = { λ r. r.len ≤ 141 };
+}
+
+impl Report {
+    fn push(&mut self, byte: u8)
+        requires { length self.old < 141 }
+        ensures { self.new ≡ self.old ++ (byte ∷ []) }
+    {
+        self.bytes[self.len] = byte;
+        self.len += 1;
     }
-    at + i
-}
 
-fn put_byte(out: &mut [u8], at: usize, byte: u8) -> usize
-    requires { at < length out.old }
-    ensures { Put out.old at (byte ∷ []) result out.new }
-{
-    out[at] = byte;
-    at + 1
-}
-
-// A number below 100: its tens are left out where there are none.
-fn decimal(n: u32, out: &mut [u8], at: usize) -> usize
-    requires { at + 2 ≤ length out.old }
-    ensures { Put out.old at (decimal_of n) result out.new }
-{
-    let ones = 48 + (n % 10) as u8;
-    if n < 10 {
-        return put_byte(out, at, ones);
+    fn push_all(&mut self, text: &[u8])
+        requires { length self.old + length text.now ≤ 141 }
+        ensures { self.new ≡ self.old ++ text.now }
+    {
+        for byte in text {
+            self.push(*byte);
+        }
     }
-    let tens = 48 + (n / 10 % 10) as u8;
-    let at = put_byte(out, at, tens);
-    put_byte(out, at, ones)
-}
 
-fn hex(x: f32, out: &mut [u8], at: usize) -> usize
-    requires { at + 8 ≤ length out.old }
-    ensures { Put out.old at (bits_of x) result out.new }
-{
-    let digits = patterns::hex(patterns::bits(x));
-    put(out, at, &digits)
-}
-
-// x after one blank.
-fn blank_hex(x: f32, out: &mut [u8], at: usize) -> usize
-    requires { at + 9 ≤ length out.old }
-    ensures { Put out.old at (blank ∷ bits_of x) result out.new }
-{
-    let at = put_byte(out, at, b' ');
-    hex(x, out, at)
-}
-
-// Each of the answers after one blank.
-fn further(answers: &[f32], out: &mut [u8], at: usize) -> usize
-    requires { at + 9 * length answers.now ≤ length out.old }
-    ensures { Put out.old at (after_blanks (map bits_of answers.now)) result out.new }
-{
-    let mut next = at;
-    let mut o = 0;
-    while o < answers.len() {
-        next = blank_hex(answers[o], out, next);
-        o += 1;
+    // A number below 100: its tens are left out where there are none.
+    fn push_number(&mut self, n: u32)
+        requires { length self.old + 2 ≤ 141 }
+        ensures { self.new ≡ self.old ++ decimal_of n }
+    {
+        if n >= 10 {
+            self.push(b'0' + (n / 10 % 10) as u8);
+        }
+        self.push(b'0' + (n % 10) as u8);
     }
-    next
-}
 
-// The answers, separated by one blank.
-fn line(answers: &[f32], out: &mut [u8], at: usize) -> usize
-    requires answers_nonzero { 0 < length answers.now }
-    requires answers_in_bounds { at + 9 * length answers.now ≤ length out.old + 1 }
-    ensures { Put out.old at (spaced (map bits_of answers.now)) result out.new }
-{
-    let at = hex(answers[0], out, at);
-    further(&answers[1..], out, at)
-}
+    // The digits of x.
+    #[tactic(auto, unfolding(crate::specs::Text::bits_of))]
+    fn push_bits(&mut self, x: f32)
+        requires { length self.old + 8 ≤ 141 }
+        ensures bits { self.new ≡ self.old ++ bits_of x }
+        ensures long { length self.new ≡ length self.old + 8 }
+    {
+        self.push_all(&patterns::hex(patterns::bits(x)));
+    }
 
-// A word, a number and the end of the line.
-fn head(word: &[u8], number: u32, out: &mut [u8]) -> usize
-    requires { length word.now + 3 ≤ length out.old }
-    ensures { Put out.old 0 (head_of word.now number) result out.new }
-{
-    let at = put(out, 0, word);
-    let at = decimal(number, out, at);
-    put_byte(out, at, b'\n')
-}
+    // A word, a number and the end of the line.
+    #[tactic(auto, unfolding(crate::specs::Text::head_of))]
+    fn head(word: &[u8], number: u32) -> Report
+        requires { length word.now + 3 ≤ 141 }
+        ensures head { result ≡ head_of word.now number }
+        ensures short { length result ≤ length word.now + 3 }
+    {
+        let mut report = Report {
+            bytes: [0; 141],
+            len: 0,
+        };
+        report.push_all(word);
+        report.push_number(number);
+        report.push(b'\n');
+        report
+    }
 
-pub(crate) fn refused(number: u32, out: &mut [u8]) -> usize
-    requires number_nonzero { 0 < number }
-    requires in_bounds { 11 ≤ length out.old }
-    ensures { Put out.old 0 (report number []) result out.new }
-{
-    head(b"refused ", number, out)
-}
+    #[tactic(auto, unfolding(crate::specs::Text::report))]
+    pub(crate) fn refused(number: u32) -> Report
+        requires { 0 < number }
+        ensures { result ≡ report number [] }
+    {
+        Report::head(b"refused ", number)
+    }
 
-pub(crate) fn accepted(answers: &[f32], out: &mut [u8]) -> usize
-    requires answers_nonzero { (0 < length answers.now) × (length answers.now ≤ 15) }
-    requires in_bounds { 141 ≤ length out.old }
-    ensures { Put out.old 0 (report 0 answers.now) result out.new }
-{
-    let at = head(b"ok ", answers.len() as u32, out);
-    let at = line(answers, out, at);
-    put_byte(out, at, b'\n')
+    // The digits of each answer, separated by one blank.
+    fn push_spaced(&mut self, answers: &[f32])
+        requires { length self.old + 9 * length answers.now ≤ 141 }
+        ensures spaced { self.new ≡ self.old ++ spaced (map bits_of answers.now) }
+        ensures long { length self.new ≡ length self.old + (9 * length answers.now - 1) }
+    {
+        let Some((first, others)) = answers.split_first() else {
+            return;
+        };
+        self.push_bits(*first);
+        for x in others {
+            self.push(b' ');
+            self.push_bits(*x);
+        }
+    }
+
+    #[tactic(auto, unfolding(crate::specs::Text::report))]
+    pub(crate) fn accepted(answers: &[f32]) -> Report
+        requires { length answers.now ≤ 15 }
+        ensures { result ≡ report 0 answers.now }
+    {
+        let mut report = Report::head(b"ok ", answers.len() as u32);
+        report.push_spaced(answers);
+        report.push(b'\n');
+        report
+    }
+
+    pub(crate) fn as_slice(&self) -> &[u8]
+        ensures bytes { result.now ≡ self.now }
+        ensures fits { length result.now ≤ 141 }
+    {
+        &self.bytes[..self.len]
+    }
 }
