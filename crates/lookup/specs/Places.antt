@@ -1,5 +1,5 @@
--- Where the code finds its entries, for the contracts of private functions alone: no public statement rests on this file. A cell is held by the distances, in
--- entries, from a table part's start to its lower and its upper node. Definitions only.
+-- Where the code finds its entries, for the contracts of private functions alone: no public statement rests on this file. A cell is held
+-- by the distances, in entries, from a table part's start to its lower and its upper node. Definitions only.
 use Rattle.std.specs.Prelude.{ℕ, zero, suc, ◌+◌, ◌*◌, ◌≤◌, ◌<◌, max, ◌≡◌, Bool, false, cond, List, [], ◌∷◌, ltb, Float, length, get_or}
 use Rattle.std.specs.Float.{nan}
 use Rattle.std.specs.Float.Ieee.{is_nan}

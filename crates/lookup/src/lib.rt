@@ -5,22 +5,30 @@ mod place;
 mod value;
 
 ghost use Rattle.std.specs.Prelude.{◌≡◌, ◌≤◌, length};
+ghost use Rattle.outcome.specs.Refused.{number_in};
 ghost use Rattle.lists.specs.Buffer.{left};
 ghost use Rattle.layout.specs.Layout.{IsLayout, entries};
 ghost use Rattle.lookup.specs.Table.{answer_at, nan_refusal, Looked, LookedBySizes};
 
 use cell::Cell;
 use layout::MultidimensionalLut;
+use outcome::Refusal;
 
-// The m answers, or 16 for a NaN input: no answer is written before every input has its cell.
-fn write(lut: &MultidimensionalLut, table: &[f32], inputs: &[f32], answer: &mut [f32]) -> u32
+// The m answers; a NaN input is refused. No answer is written before every input has its cell.
+fn write(
+    lut: &MultidimensionalLut,
+    table: &[f32],
+    inputs: &[f32],
+    answer: &mut [f32],
+) -> Result<(), Refusal>
     requires layout { IsLayout lut.now }
     requires as_many { length inputs.now ≡ lut.now.input_inks }
     requires few { length inputs.now ≤ 16 }
     requires enough { entries lut.now ≤ length table.now }
     requires room { lut.now.output_inks ≤ length answer.old }
-    ensures number { result ≡ nan_refusal inputs.now }
-    ensures entries { answer.new ≡ left result (answer_at lut.now table.now inputs.now) lut.now.output_inks answer.old }
+    ensures number { number_in result ≡ nan_refusal inputs.now }
+    ensures entries { answer.new
+        ≡ left (number_in result) (answer_at lut.now table.now inputs.now) lut.now.output_inks answer.old }
 {
     let mut cells = [Cell {
         x: 0,
@@ -28,34 +36,33 @@ fn write(lut: &MultidimensionalLut, table: &[f32], inputs: &[f32], answer: &mut 
         w: 0.0,
     }; 16];
     let inks = &mut cells[..inputs.len()];
-    let refused = place::place(lut, inputs, inks);
-    if refused != 0 {
-        return refused;
-    }
+    place::place(lut, inputs, inks)?;
     value::each(table, inks, lut.output_inks, answer);
-    0
+    Ok(())
 }
 
-// The lookup: its number, and on 0 the m answers in the first entries of `answer`.
-pub fn lookup(lut: MultidimensionalLut, table: &[f32], inputs: &[f32], answer: &mut [f32]) -> u32
-    ensures { Looked lut table.now inputs.now answer.old result answer.new }
+// The lookup: the m answers, in the first entries of `answer`.
+pub fn lookup(
+    lut: MultidimensionalLut,
+    table: &[f32],
+    inputs: &[f32],
+    answer: &mut [f32],
+) -> Result<(), Refusal>
+    ensures { Looked lut table.now inputs.now answer.old (number_in result) answer.new }
 {
     if !layout::is_layout(lut) {
-        return 9;
+        return Err(Refusal::ForeignRecord);
     }
     let n = lut.input_inks;
     let m = lut.output_inks;
-    let refusal = layout::length_refusal(layout::entry_count(lut), n, table.len(), inputs.len());
-    if refusal != 0 {
-        return refusal;
-    }
+    layout::check_lengths(layout::entry_count(lut), n, table.len(), inputs.len())?;
     if answer.len() < m {
-        return 8;
+        return Err(Refusal::ShortAnswer);
     }
     write(&lut, table, inputs, answer)
 }
 
-// Lays out, then looks up by the record: 1, 2, 3, 5, then 6, 7, 8, 16.
+// Lays out, then looks up by the record.
 pub fn lookup_by_sizes(
     sizes: &[u8; 16],
     n: usize,
@@ -63,12 +70,9 @@ pub fn lookup_by_sizes(
     table: &[f32],
     inputs: &[f32],
     answer: &mut [f32],
-) -> u32
-    ensures { LookedBySizes sizes.now n m table.now inputs.now answer.old result answer.new }
+) -> Result<(), Refusal>
+    ensures { LookedBySizes sizes.now n m table.now inputs.now answer.old (number_in result) answer.new }
 {
-    let laid = layout::layout(*sizes, n, m);
-    if laid.refusal != 0 {
-        return laid.refusal;
-    }
-    lookup(laid.lut, table, inputs, answer)
+    let lut = layout::layout(*sizes, n, m)?;
+    lookup(lut, table, inputs, answer)
 }

@@ -45,7 +45,8 @@ module _ (lut : MultidimensionalLut) (table : List Float) (coordinates : List �
     node-counted = omega (arith, ok.as_many, inks-to lut (checked.decides.holds ok.is))
 
     -- with the coordinates tested too: 10 or 0
-    pub node-tested : (inside : Bool) → (IsTrue inside ↔ Below lut.grid_sizes coordinates) → NodeRefused lut table coordinates (cond (not inside) 10 0)
+    pub node-tested : (inside : Bool) → (IsTrue inside ↔ Below lut.grid_sizes coordinates)
+        → NodeRefused lut table coordinates (cond (not inside) 10 0)
     unfolding node_refusal
     node-tested inside holds =
         record {
@@ -53,7 +54,8 @@ module _ (lut : MultidimensionalLut) (table : List Float) (coordinates : List �
           decides = checked.decides;
           number =
               ap (λ (b : Bool). cond (not b) 10 0)
-              (grid-tested lut.grid_sizes coordinates inside holds ∙ ap (λ (n : ℕ). in_grid (last_first n lut.grid_sizes) (reverse coordinates)) ok.as_many)
+              (grid-tested lut.grid_sizes coordinates inside holds
+              ∙ ap (λ (n : ℕ). in_grid (last_first n lut.grid_sizes) (reverse coordinates)) ok.as_many)
               ∙ ok.next _;
         }
 
@@ -68,7 +70,9 @@ module _ (lut : MultidimensionalLut) (table : List Float) (coordinates : List �
         record {
           layout = refused.decides.holds node-passed.is;
           as_many = node-passed.as_many;
-          inside = go (in_grid (ink_sizes lut) (reverse coordinates)) (others-none refused.laid (entries lut) lut.input_inks (length table) (length coordinates) 0 _ refused.number refl);
+          inside =
+              go (in_grid (ink_sizes lut) (reverse coordinates))
+              (others-none refused.laid (entries lut) lut.input_inks (length table) (length coordinates) 0 _ refused.number refl);
         }
       where
         go : (b : Bool) → ◌≡◌ {A = ℕ} (cond (not b) 10 0) 0 → b ≡ true
@@ -78,4 +82,5 @@ module _ (lut : MultidimensionalLut) (table : List Float) (coordinates : List �
     -- the node's entries stand in the table
     pub node-stands : index (ink_sizes lut) (reverse coordinates) * lut.output_inks + lut.output_inks ≤ length table
     node-stands =
-        omega (arith, entries-within (ink_sizes lut) (reverse coordinates) lut.output_inks (in-grid-within _ _ is-node.inside), node-passed.enough)
+        let within = entries-within (ink_sizes lut) (reverse coordinates) lut.output_inks (in-grid-within _ _ is-node.inside) in
+        omega (arith, within, node-passed.enough)

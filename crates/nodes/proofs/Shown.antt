@@ -1,5 +1,6 @@
 -- What the node reader shows, and that the part is empty exactly when the number is not 0. Assumes nothing.
-use Rattle.std.proofs.Common.{◌≡◌, ℕ, zero, suc, ◌+◌, ◌-◌, ◌*◌, Bool, List, [], length, take, drop, reverse, refl, sym, ap, subst, ◌∙◌, arith}
+use Rattle.std.proofs.Common.{◌≡◌, ℕ, zero, suc, ◌+◌, ◌-◌, ◌*◌, Bool, List, []}
+use Rattle.std.proofs.Common.{length, take, drop, reverse, refl, sym, ap, subst, ◌∙◌, arith}
 use Rattle.std.proofs.lemmas.List.{length-take-le, length-drop}
 use lib.Ieee.{Float}
 use Rattle.outcome.specs.Outcome.{Decides, on_done}
@@ -18,12 +19,14 @@ module _ (lut : MultidimensionalLut) (table : List Float) (coordinates : List �
   nothing (suc r) some = refl
 
   -- whichever Bool decides
-  number-is : (b : Bool) → Decides b (IsLayout lut) → (r : ℕ) → NodeRefused lut table coordinates r → node_refusal b lut (length table) coordinates ≡ r
+  number-is : (b : Bool) → Decides b (IsLayout lut) → (r : ℕ) → NodeRefused lut table coordinates r
+      → node_refusal b lut (length table) coordinates ≡ r
   number-is b decides r refused =
       ap (λ (c : Bool). node_refusal c lut (length table) coordinates) (decided b refused.laid decides refused.decides) ∙ sym refused.number
 
   -- with the entries of the call's number
-  shown-by : (r : ℕ) → NodeRefused lut table coordinates r → (shown : List Float) → shown ≡ node_entries r lut table coordinates → NodeShown lut table coordinates shown
+  shown-by : (r : ℕ) → NodeRefused lut table coordinates r → (shown : List Float) → shown ≡ node_entries r lut table coordinates
+      → NodeShown lut table coordinates shown
   shown-by r refused shown is =
       record {
         laid = refused.laid;
@@ -41,7 +44,8 @@ module _ (lut : MultidimensionalLut) (table : List Float) (coordinates : List �
     place-is : (start : ℕ) → NodePlaced lut table coordinates start → start ≡ first
     place-is start placed = placed.offset ∙ ap (λ (k : ℕ). on_done k first 0) (number-is placed.laid placed.decides 0 refused)
 
-    pub shown-node : (start : ℕ) → NodePlaced lut table coordinates start → NodeShown lut table coordinates (take (start + lut.output_inks - start) (drop start table))
+    pub shown-node : (start : ℕ) → NodePlaced lut table coordinates start
+        → NodeShown lut table coordinates (take (start + lut.output_inks - start) (drop start table))
     unfolding node_entries
     shown-node start placed =
         let many : start + lut.output_inks - start ≡ lut.output_inks = omega arith in
@@ -49,10 +53,13 @@ module _ (lut : MultidimensionalLut) (table : List Float) (coordinates : List �
 
     long : length (node_entries 0 lut table coordinates) ≡ lut.output_inks
     unfolding node_entries
-    long = length-take-le lut.output_inks (drop first table) (omega (arith, length-drop first table, node-stands lut table coordinates refused))
+    long =
+        let stands = node-stands lut table coordinates refused in
+        length-take-le lut.output_inks (drop first table) (omega (arith, length-drop first table, stands))
 
   -- The number and the part of two calls on the same arguments: the part is empty exactly when the number is not 0.
-  pub node-empty : (r : ℕ) (refused : NodeRefused lut table coordinates r) (shown : List Float) → NodeShown lut table coordinates shown → (length shown ≡ 0 → r ≡ 0 → ⊥) × ((r ≡ 0 → ⊥) → length shown ≡ 0)
+  pub node-empty : (r : ℕ) (refused : NodeRefused lut table coordinates r) (shown : List Float) → NodeShown lut table coordinates shown
+      → (length shown ≡ 0 → r ≡ 0 → ⊥) × ((r ≡ 0 → ⊥) → length shown ≡ 0)
   node-empty r refused shown holds =
       let same : shown ≡ node_entries r lut table coordinates =
       holds.entries ∙ ap (λ (k : ℕ). node_entries k lut table coordinates) (number-is holds.laid holds.decides r refused) in (

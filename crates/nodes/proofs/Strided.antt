@@ -1,5 +1,6 @@
 -- A node's number as a sum over its inks, first ink first. Assumes nothing.
-use Rattle.std.proofs.Common.{◌≡◌, ℕ, ◌+◌, ◌*◌, ◌^◌, ◌<◌, ◌≤◌, true, List, length, get_or, take, reverse, refl, sym, ap, ◌∙◌, arith, le_trans, lit≤}
+use Rattle.std.proofs.Common.{◌≡◌, ℕ, ◌+◌, ◌*◌, ◌^◌, ◌<◌, ◌≤◌, true, List, length}
+use Rattle.std.proofs.Common.{get_or, take, reverse, refl, sym, ap, ◌∙◌, arith, le_trans, lit≤}
 use Rattle.std.proofs.lemmas.List.{length-reverse, take_all, take_more, length-take-le, reverse-append}
 use native.Mathlib.Nat.{mul-le-mul}
 use Rattle.lists.specs.Lists.{last_first}
@@ -30,9 +31,9 @@ module _ (lut : MultidimensionalLut) (ks : List ℕ) (node : IsNode lut ks) wher
       let inside : in_grid (last_first (length ks) lut.grid_sizes) (last_first (length ks) ks) ≡ true =
       (λ j. in_grid (last_first (node.as_many j) lut.grid_sizes) (sym (reverse-all ks) j)) ∙ node.inside in
       let line = in-grid-at lut.grid_sizes ks (length ks) i inside h in
-      le_trans
-      (mul-le-mul {n₂ = 255} {m₂ = limit} (omega (arith, line, size-to lut node.layout i)) (stride-within lut node.layout i (omega (arith, node.as_many))))
-      (lit≤ tt)
+      let byte : get_or ks i 0 ≤ 255 = omega (arith, line, size-to lut node.layout i) in
+      let wide = stride-within lut node.layout i (omega (arith, node.as_many)) in
+      le_trans (mul-le-mul {n₂ = 255} {m₂ = limit} byte wide) (lit≤ tt)
 
   module _ (i sum : ℕ) (so_far : SoFar strides ks i sum) where
     pub one_more : i < length ks → SoFar strides ks (i + 1) (sum + get_or ks i 0 * get_or strides i 0)

@@ -1,5 +1,5 @@
--- Each public function asks nothing of its caller, and its statement leaves one outcome. Of the part that `node` hands back its entries are seen: no statement
--- fixes a pointer. Assumes nothing.
+-- Each public function asks nothing of its caller, and its statement leaves one outcome. Of the part that `node` hands back its entries
+-- are seen: no statement fixes a pointer. Assumes nothing.
 use Prim.Native.Nat.{ℕ, ◌*◌}
 use mathlib.Core.Path.{◌≡◌, refl, sym, ap, ◌∙◌}
 use mathlib.Core.Bool.{Bool}
@@ -10,13 +10,13 @@ use lib.ListN.{length}
 use Rattle.std.specs.Prelude.{Result, Ok, Err}
 use Rattle.outcome.specs.declared.Refusal.{Refusal}
 use Rattle.outcome.specs.Refused.{number_in}
-use Rattle.outcome.specs.Outcome.{OneOutcome, OneOutcomeSeen, on_done}
+use Rattle.outcome.specs.Outcome.{Decides, OneOutcome, OneOutcomeSeen, on_done}
 use Rattle.outcome.proofs.Decided.{decided}
 use Rattle.outcome.proofs.Numbers.{not_done, same_refusal, same_answer, same_done}
 use Rattle.layout.specs.declared.MultidimensionalLut.{MultidimensionalLut}
 use Rattle.layout.specs.declared.EntryOffset.{EntryOffset}
 use Rattle.layout.specs.Order.{index}
-use Rattle.layout.specs.Layout.{ink_sizes}
+use Rattle.layout.specs.Layout.{IsLayout, ink_sizes}
 use Rattle.nodes.specs.Node.{node_refusal, node_entries, NodeRefused, NodePlaced, NodeShown, offset_in, entries_in}
 use Rattle.nodes.proofs.check_node.Kinds as check-node-kinds
 use Rattle.nodes.proofs.check_node.Reads as check-node-reads
@@ -26,23 +26,24 @@ use Rattle.nodes.proofs.node.Kinds as node-kinds
 use Rattle.nodes.proofs.node.Reads as node-reads
 
 module _ (lut : MultidimensionalLut) (table : List Float) (coordinates : List ℕ) where
+  one_refusal : (b c : Bool) → Decides b (IsLayout lut) → Decides c (IsLayout lut)
+      → node_refusal b lut (length table) coordinates ≡ node_refusal c lut (length table) coordinates
+  one_refusal b c p q = ap (λ (laid : Bool). node_refusal laid lut (length table) coordinates) (decided b c p q)
+
   one_number : (r s : ℕ) → NodeRefused lut table coordinates r → NodeRefused lut table coordinates s → r ≡ s
-  one_number r s p q =
-      p.number
-      ∙ ap (λ (b : Bool). node_refusal b lut (length table) coordinates) (decided p.laid q.laid p.decides q.decides)
-      ∙ sym q.number
+  one_number r s p q = p.number ∙ one_refusal p.laid q.laid p.decides q.decides ∙ sym q.number
 
   one_place : (first other : ℕ) → NodePlaced lut table coordinates first → NodePlaced lut table coordinates other → first ≡ other
   one_place first other p q =
       p.offset
-      ∙ ap (λ (b : Bool). on_done (node_refusal b lut (length table) coordinates) (index (ink_sizes lut) (reverse coordinates) * lut.output_inks) 0)
-      (decided p.laid q.laid p.decides q.decides)
+      ∙ ap (λ (k : ℕ). on_done k (index (ink_sizes lut) (reverse coordinates) * lut.output_inks) 0)
+      (one_refusal p.laid q.laid p.decides q.decides)
       ∙ sym q.offset
 
   one_part : (shown other : List Float) → NodeShown lut table coordinates shown → NodeShown lut table coordinates other → shown ≡ other
   one_part shown other p q =
       p.entries
-      ∙ ap (λ (b : Bool). node_entries (node_refusal b lut (length table) coordinates) lut table coordinates) (decided p.laid q.laid p.decides q.decides)
+      ∙ ap (λ (k : ℕ). node_entries k lut table coordinates) (one_refusal p.laid q.laid p.decides q.decides)
       ∙ sym q.entries
 
 -- of a part its entries are seen

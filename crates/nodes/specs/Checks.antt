@@ -1,4 +1,5 @@
--- The refusals that come first, and what they leave, for the contracts of private functions alone: no public statement rests on this file. Definitions only.
+-- The refusals that come first, and what they leave, for the contracts of private functions alone: no public statement rests on this
+-- file. Definitions only.
 use Rattle.std.specs.Prelude.{ℕ, ◌≡◌, Bool, true, cond, not, List, length, reverse}
 use Rattle.outcome.specs.Outcome.{Decides}
 use Rattle.layout.specs.declared.MultidimensionalLut.{MultidimensionalLut}

@@ -1,5 +1,6 @@
 -- What the node reader shows: the stretch of the table that holds a node's m entries. Coordinates come first ink first. Definitions only.
-use Rattle.std.specs.Prelude.{ℕ, zero, suc, Result, Ok, Err, ◌*◌, ◌≡◌, Bool, cond, not, List, [], reverse, ltb, eqb, Float, length, take, drop}
+use Rattle.std.specs.Prelude.{ℕ, zero, suc, Result, Ok, Err, ◌*◌, ◌≡◌, Bool, cond}
+use Rattle.std.specs.Prelude.{not, List, [], reverse, ltb, eqb, Float, length, take, drop}
 use denote.Ref.{Bor}
 use Rattle.outcome.specs.declared.Refusal.{Refusal}
 use Rattle.outcome.specs.Outcome.{Decides, on_done}
@@ -8,7 +9,8 @@ use Rattle.layout.specs.declared.MultidimensionalLut.{MultidimensionalLut}
 use Rattle.layout.specs.Order.{index, in_grid}
 use Rattle.layout.specs.Layout.{IsLayout, ink_sizes, entries}
 
--- 9 not a layout's record, 6 a short table, 7 the number of coordinates, 10 a coordinate past the last line: the first that applies, and 0 where none does
+-- 9 not a layout's record, 6 a short table, 7 the number of coordinates, 10 a coordinate past the last line: the first that applies, and
+-- 0 where none does
 unfoldable pub node_refusal : Bool → MultidimensionalLut → ℕ → List ℕ → ℕ
 node_refusal laid lut table coordinates =
     cond (not laid) 9

@@ -2,8 +2,8 @@
 use Rattle.std.proofs.Common.{◌≡◌, ◌+◌, ◌*◌, true, eqb, sym, ◌∙◌, eq-eqb, ne_eqb}
 use Rattle.flash.specs.File.{word_at, check_of}
 use Rattle.flash.specs.Refusals.{block_refusal}
-use Rattle.flash.proofs.check.block_refusal.Goals as goal
-use Rattle.flash.proofs.check.block_refusal.Goals.{Else-sum-word, Else-word-number}
+use Rattle.flash.proofs.check.check_block.Goals as goal
+use Rattle.flash.proofs.check.check_block.Goals.{Else-sum-word, Else-word-number}
 
 check-is : (c : Else-sum-word) → let a = c.args in eqb (check_of (λ j. word_at a.file.now (a.at + 4 * j))) (word_at a.file.now (a.at + 508)) ≡ true
 check-is c = eq-eqb _ _ (sym c.sum.ensures ∙ c.if-sum-word.false ∙ c.word.ensures)
