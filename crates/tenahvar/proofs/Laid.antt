@@ -1,23 +1,51 @@
 -- A layout that gives 0: what the node reader and a cut say of that record is what the caller through C is owed.
 -- Assumes nothing.
 use Prim.Native.Nat.{ℕ, ◌*◌}
-use mathlib.Core.Path.{◌≡◌, sym, ap, ◌∙◌}
+use mathlib.Core.Path.{◌≡◌, refl, sym, ap, ◌∙◌}
 use mathlib.Core.Bool.{Bool, true}
 use mathlib.Core.List.{List, reverse}
 use lib.Ieee.{Float, nan}
 use lib.ListN.{length, get_or}
+use Rattle.std.specs.Prelude.{Result, Ok, Err}
+use Rattle.outcome.specs.declared.Refusal.{Refusal}
+use Rattle.outcome.specs.Refused.{number_of, number_in}
 use Rattle.outcome.specs.Outcome.{or_else, on_done}
 use Rattle.outcome.proofs.Refused.{kept, given}
 use Rattle.lists.specs.Buffer.{left}
 use Rattle.layout.specs.declared.MultidimensionalLut.{MultidimensionalLut}
-use Rattle.layout.specs.declared.Laid.{Laid}
 use Rattle.layout.specs.Order.{index}
-use Rattle.layout.specs.Layout.{laid_of, IsLayout, ink_sizes, entries}
+use Rattle.layout.specs.Layout.{Laid, laid_of, laid_in, refused_by, IsLayout, LaidBy, ink_sizes, entries}
 use Rattle.layout.proofs.BySizes.{laid-outputs}
 use Rattle.nodes.specs.Node.{node_refusal, NodeRefused, NodePlaced}
 use Rattle.grid_slab.specs.Slab.{fewer, slab, refusal, SlabCut}
+use Rattle.outcome.proofs.Numbers.{not_done}
+use Rattle.flash.specs.BySizes.{Told}
 use Rattle.tenahvar.specs.Slab.{slab_number, SlabTaken}
 use Rattle.tenahvar.specs.Node.{node_number, NodeFound}
+
+-- the number of a record that is none
+pub refused-as : (e : Refusal) (k : ℕ) → (laid_in (Err e)).refusal ≡ k → number_of e ≡ k
+unfolding refused_by
+refused-as e k is = is
+
+-- and it is not told
+pub untold : (e : Refusal) (sizes : List ℕ) (n m : ℕ) → Told (laid_in (Err e)).refusal (laid_in (Err e)).lut sizes n m sizes n m
+unfolding refused_by
+untold e sizes n m = record { sizes = kept _ _ _ (not_done e) refl; inks = kept _ _ _ (not_done e) refl; outputs = kept _ _ _ (not_done e) refl }
+
+-- the number that is answered is the record's
+pub number-of-laid : (answer : Result MultidimensionalLut Refusal) → number_in answer ≡ (laid_in answer).refusal
+unfolding refused_by
+number-of-laid (Ok lut) = refl
+number-of-laid (Err e) = refl
+
+-- a refused layout's number, and an accepted one's
+pub refused-number : (sizes : List ℕ) (n m : ℕ) (e : Refusal) → LaidBy sizes n m (laid_in (Err e)) → number_of e ≡ (laid_of sizes n m).refusal
+unfolding refused_by
+refused-number sizes n m e by = ap (λ (l : Laid). l.refusal) by.answer
+
+pub accepted-number : (sizes : List ℕ) (n m : ℕ) (lut : MultidimensionalLut) → LaidBy sizes n m (laid_in (Ok lut)) → 0 ≡ (laid_of sizes n m).refusal
+accepted-number sizes n m lut by = ap (λ (l : Laid). l.refusal) by.answer
 
 module _ (sizes : List ℕ) (n m : ℕ) (laid : Laid) (answer : laid ≡ laid_of sizes n m) (no-refusal : laid.refusal ≡ 0) where
   accepted : (laid_of sizes n m).refusal ≡ 0
@@ -53,13 +81,3 @@ module _ (sizes : List ℕ) (n m : ℕ) (laid : Laid) (answer : laid ≡ laid_of
               ∙ ap (λ (k : ℕ). index (ink_sizes (laid_of sizes n m).lut) (reverse coordinates) * k) (laid-outputs sizes n m accepted)
               ∙ given _ _ old number;
         }
-
-  -- a cut by the record
-  pub slab-taken : IsLayout laid.lut → (table : List Float) (j k : ℕ) (old : List Float) (r : ℕ) (now : List Float) → SlabCut laid.lut table j k old r now → SlabTaken sizes n m table j k old r now
-  slab-taken is table j k old r now cut =
-      let number : r ≡ slab_number sizes n m (length table) j k (length old) =
-      after-layout (λ lut. refusal true lut (length table) j k (length old)) r (cut.number ∙ ap (λ (b : Bool). refusal b laid.lut (length table) j k (length old)) (cut.decides.found is)) in
-      record {
-        number = number;
-        entries = cut.entries ∙ (λ i. left (number i) (λ e. get_or (slab (answer i).lut table j k) e nan) (entries (fewer (answer i).lut j)) old);
-      }

@@ -24,9 +24,12 @@ pub(crate) fn lay_out(
     ensures { LaidOut sizes.now n m grid_strides.old grid_filling_size.old grid_scale.old (number_in result) grid_strides.new grid_filling_size.new grid_scale.new }
 {
     let lut = layout::layout(*sizes, n, m)?;
-    *grid_strides = lut.grid_strides;
-    *grid_filling_size = lut.grid_filling_size;
-    *grid_scale = lut.grid_scale;
+    let strides = lut.grid_strides;
+    *grid_strides = strides;
+    let filling = lut.grid_filling_size;
+    *grid_filling_size = filling;
+    let scale = lut.grid_scale;
+    *grid_scale = scale;
     Ok(())
 }
 
@@ -82,8 +85,9 @@ pub(crate) fn read(
 ) -> Result<(), Refusal>
     ensures { ClutTaken element.now n m sizes.old entries.old (number_in result) sizes.new entries.new }
 {
-    let read = clut::read_clut(element, n, m, entries)?;
-    *sizes = read.grid_sizes;
+    let lut = clut::read_clut(element, n, m, entries)?;
+    let grid_sizes = lut.grid_sizes;
+    *sizes = grid_sizes;
     Ok(())
 }
 

@@ -55,7 +55,8 @@ fn tell(
     ensures told { Told (laid_in read).refusal (laid_in read).lut sizes.old n.old m.old sizes.new n.new m.new }
 {
     let lut = read?;
-    *sizes = lut.grid_sizes;
+    let grid_sizes = lut.grid_sizes;
+    *sizes = grid_sizes;
     *n = lut.input_inks;
     *m = lut.output_inks;
     Ok(())
