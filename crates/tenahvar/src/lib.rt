@@ -3,6 +3,7 @@
 
 mod files;
 
+ghost use Rattle.std.specs.Prelude.{◌≡◌, ◌<◌};
 ghost use Rattle.cubes.specs.Blends.{pyramid, prism, trilinear};
 ghost use Rattle.tenahvar.specs.Layout.{LaidOut, Totalled};
 ghost use Rattle.lookup.specs.Table.{LookedBySizes};
@@ -10,11 +11,12 @@ ghost use Rattle.lookup.specs.Idle.{LookedSkippingBySizes};
 ghost use Rattle.tenahvar.specs.Node.{NodeFound};
 ghost use Rattle.tenahvar.specs.Slab.{SlabTaken};
 ghost use Rattle.tenahvar.specs.Weights.{RangedInto};
-ghost use Rattle.tenahvar.specs.Cubes.{BlendedAt};
+ghost use Rattle.tenahvar.specs.Cubes.{BlendedAt, cell_at};
 ghost use Rattle.clut.specs.Units.{UnitsRead};
 ghost use Rattle.tenahvar.specs.Clut.{ClutTaken};
 
 use cell::Cell;
+use cubes::{Cube, Inks, Method};
 
 // The layout's number; on 0 the record's three rows are written, on a refusal nothing is.
 #[unsafe(no_mangle)]
@@ -173,6 +175,7 @@ pub extern "C" fn tenahvar_read_units(
 }
 
 // The cells of all 256 codes on an axis of g lines: lower nodes, upper nodes and weights. Refused, nothing is written.
+#[tactic(auto, unfolding(weights::specs::Rule::ranged, weights::specs::Rule::ranged_cell, lists::specs::Buffer::written))]
 #[unsafe(no_mangle)]
 pub extern "C" fn tenahvar_create_ranged_256(
     g: u8,
@@ -185,16 +188,37 @@ pub extern "C" fn tenahvar_create_ranged_256(
     if g == 0 {
         return 3;
     }
-    let mut i: usize = 0;
-    while i < 256 {
-        let ranged = weights::ranged_256(g, i as u8);
-        let c = ranged.cell;
+    for i in 0..256usize {
+        let c = weights::ranged_256(g, i as u8).unwrap();
         x[i] = c.x;
         x_n[i] = c.x_n;
         w[i] = c.w;
-        i += 1;
     }
     0
+}
+
+// The cell on axis i, from the lower nodes, upper nodes and weights.
+fn axis(x: &[usize; 3], x_n: &[usize; 3], w: &[f32; 3], i: usize) -> Cell
+    requires { i < 3 }
+    ensures { result ≡ cell_at x.now x_n.now w.now i }
+{
+    Cell {
+        x: x[i],
+        x_n: x_n[i],
+        w: w[i],
+    }
+}
+
+// The cells on three axes.
+fn cells(x: &[usize; 3], x_n: &[usize; 3], w: &[f32; 3]) -> Inks<Cell>
+    ensures { let at = cell_at x.now x_n.now w.now in
+        result ≡ record { red = at 0; green = at 1; blue = at 2 } }
+{
+    Inks {
+        red: axis(x, x_n, w, 0),
+        green: axis(x, x_n, w, 1),
+        blue: axis(x, x_n, w, 2),
+    }
 }
 
 // The pyramid method: refusals 2, 3, 6, 8, 10.
@@ -210,22 +234,13 @@ pub extern "C" fn tenahvar_pyramidal(
 ) -> u32
     ensures { BlendedAt pyramid x.now x_n.now w.now g m cube.now answer.old result answer.new }
 {
-    let cx = Cell {
-        x: x[0],
-        x_n: x_n[0],
-        w: w[0],
+    let cube = Cube {
+        g,
+        m,
+        entries: cube,
     };
-    let cy = Cell {
-        x: x[1],
-        x_n: x_n[1],
-        w: w[1],
-    };
-    let cz = Cell {
-        x: x[2],
-        x_n: x_n[2],
-        w: w[2],
-    };
-    cubes::pyramidal(cx, cy, cz, g, m, cube, answer)
+    let done = cubes::interpolate(Method::Pyramidal, cells(x, x_n, w), cube, answer);
+    outcome::number(done)
 }
 
 // The prism method: refusals 2, 3, 6, 8, 10.
@@ -241,22 +256,13 @@ pub extern "C" fn tenahvar_prismatic(
 ) -> u32
     ensures { BlendedAt prism x.now x_n.now w.now g m cube.now answer.old result answer.new }
 {
-    let cx = Cell {
-        x: x[0],
-        x_n: x_n[0],
-        w: w[0],
+    let cube = Cube {
+        g,
+        m,
+        entries: cube,
     };
-    let cy = Cell {
-        x: x[1],
-        x_n: x_n[1],
-        w: w[1],
-    };
-    let cz = Cell {
-        x: x[2],
-        x_n: x_n[2],
-        w: w[2],
-    };
-    cubes::prismatic(cx, cy, cz, g, m, cube, answer)
+    let done = cubes::interpolate(Method::Prismatic, cells(x, x_n, w), cube, answer);
+    outcome::number(done)
 }
 
 // The trilinear method: refusals 2, 3, 6, 8, 10.
@@ -272,20 +278,11 @@ pub extern "C" fn tenahvar_trilinear(
 ) -> u32
     ensures { BlendedAt trilinear x.now x_n.now w.now g m cube.now answer.old result answer.new }
 {
-    let cx = Cell {
-        x: x[0],
-        x_n: x_n[0],
-        w: w[0],
+    let cube = Cube {
+        g,
+        m,
+        entries: cube,
     };
-    let cy = Cell {
-        x: x[1],
-        x_n: x_n[1],
-        w: w[1],
-    };
-    let cz = Cell {
-        x: x[2],
-        x_n: x_n[2],
-        w: w[2],
-    };
-    cubes::trilinear(cx, cy, cz, g, m, cube, answer)
+    let done = cubes::interpolate(Method::Trilinear, cells(x, x_n, w), cube, answer);
+    outcome::number(done)
 }
