@@ -60,9 +60,7 @@ pub fn entry_offset(node: NodeNumber, m: u32) -> EntryOffset
 pub fn entry_count(lut: MultidimensionalLut) -> u64
     ensures { result ≡ get_or lut.grid_filling_size 0 0 * get_or lut.grid_sizes 0 0 }
 {
-    let per_line = lut.grid_filling_size;
-    let lines = lut.grid_sizes;
-    (per_line[0] as u64) * (lines[0] as u64)
+    (lut.grid_filling_size[0] as u64) * (lut.grid_sizes[0] as u64)
 }
 
 // A table shorter than the total is refused, and then not as many inputs or coordinates as inks.
@@ -79,27 +77,24 @@ pub fn check_lengths(total: u64, n: usize, table: usize, given: usize) -> Result
 }
 
 // A count of inks is 1 to 15.
+#[tactic(auto, unfolding(crate::specs::Layout::is_count))]
 fn is_count(n: usize) -> bool
     ensures { result ≡ is_count n }
 {
-    if n < 1 {
-        return false;
-    }
-    n <= 15
+    1 <= n && n <= 15
 }
 
 // What a layout refuses: the first that applies.
-fn check(sizes: &[u8; 16], n: usize, m: usize) -> Result<(), Refusal>
-    ensures { Tested sizes.now n m (number_in result) }
+fn check(sizes: [u8; 16], n: usize, m: usize) -> Result<(), Refusal>
+    ensures { Tested sizes n m (number_in result) }
 {
-    sizes::sixteen(*sizes);
     if !is_count(n) {
         return Err(Refusal::InputInks);
     }
     if !is_count(m) {
         return Err(Refusal::OutputInks);
     }
-    let total = sizes::capped(sizes, n, m as u64);
+    let total = sizes::capped(&sizes[..n], m as u64);
     if total == 0 {
         return Err(Refusal::ZeroSize);
     }
@@ -116,11 +111,9 @@ fn fill(row: &mut [u32; 16], first: u32, sizes: &[u8; 16], n: usize)
 {
     *row = [1u32; 16];
     let mut value = first;
-    let mut i = n;
-    while 0 < i {
-        i -= 1;
+    for i in (0..n).rev() {
         row[i] = value;
-        value = value * (sizes[i] as u32);
+        value *= sizes[i] as u32;
     }
 }
 
@@ -131,9 +124,7 @@ fn fill_own(scale: &mut [f32; 16], own: &mut [u8; 16], sizes: &[u8; 16], n: usiz
 {
     *scale = [0.0f32; 16];
     *own = [0u8; 16];
-    let mut ink = n;
-    while 0 < ink {
-        ink -= 1;
+    for ink in (0..n).rev() {
         let size = sizes[ink];
         scale[ink] = (size - 1) as f32;
         own[ink] = size;
@@ -166,7 +157,7 @@ fn record_of(sizes: &[u8; 16], n: usize, m: usize) -> MultidimensionalLut
 pub fn layout(sizes: [u8; 16], n: usize, m: usize) -> Result<MultidimensionalLut, Refusal>
     ensures { LaidBy sizes n m (laid_in result) }
 {
-    check(&sizes, n, m)?;
+    check(sizes, n, m)?;
     Ok(record_of(&sizes, n, m))
 }
 
@@ -179,7 +170,7 @@ pub fn filling_sizes(
 ) -> Result<(), Refusal>
     ensures { FillingOf sizes.now n m filling.old (number_in result) filling.new }
 {
-    check(sizes, n, m)?;
+    check(*sizes, n, m)?;
     fill(filling, m as u32, sizes, n);
     Ok(())
 }
@@ -188,20 +179,8 @@ pub fn filling_sizes(
 pub fn is_layout(lut: MultidimensionalLut) -> bool
     ensures { Decides result (IsLayout lut) }
 {
-    let n = lut.input_inks;
-    let m = lut.output_inks;
-    if !is_count(n) {
+    if !is_count(lut.input_inks) || !is_count(lut.output_inks) {
         return false;
     }
-    if !is_count(m) {
-        return false;
-    }
-    let strides = lut.grid_strides;
-    let filling = lut.grid_filling_size;
-    let scale = lut.grid_scale;
-    let sizes = lut.grid_sizes;
-    if !places::used(strides, filling, scale, sizes, n, m) {
-        return false;
-    }
-    places::unused(strides, filling, scale, sizes, n)
+    places::used(&lut) && places::unused(&lut)
 }

@@ -1,10 +1,11 @@
 -- At each return the tests on the way decide the definition's.
-use Rattle.std.proofs.Common.{◌≡◌, ℕ, min, ◌+◌, ◌*◌, ◌≤◌, ◌<◌, Bool, true, false, cond, List, take, ltb, refl, sym, ap, ◌∙◌, arith, lt-ltb, le-ltb}
+use Rattle.std.proofs.Common.{◌≡◌, ℕ, min, ◌+◌, ◌*◌, ◌≤◌, ◌<◌, Bool, true, false, cond, List, take, length, get_or, Fits, w8, ltb, refl, sym, ap, ◌∙◌, arith, rules, lt-ltb, le-ltb}
 use native.Mathlib.Nat.{min-eq_right, min-le_left, mul-pos, pos_of_ne-zero}
 use native.Mathlib.Decide.{dec_le}
+use lib.Seq.{length-take-le}
 use lib.Ieee.Positive.{first_pos}
 use Rattle.lists.specs.Lists.{every, product}
-use Rattle.lists.proofs.Lists.{product-pos, product-some}
+use Rattle.lists.proofs.Lists.{are-bytes, product-pos, product-some}
 use Rattle.layout.specs.Layout.{Laid, limit, total, is_count, refused_by, laid_using, laid_of, record_of}
 use Rattle.layout.specs.Tested.{Sixteen, Tested}
 use Rattle.layout.proofs.Parts.{count-from, count-to}
@@ -65,32 +66,39 @@ module _ (sizes : List ℕ) (n m : ℕ) (known : Sixteen sizes) where
       unfolding laid_of laid_using
       by_last b above is = record { known = known; number = sym (simp (inks-count, outputs-count, above) (refusal-or (ltb limit (total (take n sizes) m)) 5 (record { refusal = 0; lut = record_of (take n sizes) n m }) ∙ ap (λ (t : Bool). cond t 5 0) is)) }
 
+-- ---- what the code knows
+
+-- an array by value is sixteen bytes
+known_by : (sizes : List ℕ) → length sizes ≡ 16 → ((i : ℕ) → Fits w8 (get_or sizes i 0)) → Sixteen sizes
+known_by sizes len narrow = record { sixteen = len; bytes = are-bytes sizes (λ i. let fits = narrow i in omega arith) }
+
 pub returns-then-not-is_count : goal.returns-then-not-is_count
-returns-then-not-is_count c = inks _ _ _ c.sixteen.ensures (sym c.is_count.ensures ∙ c.if-not-is_count.true)
+returns-then-not-is_count c = inks _ _ _ (known_by _ (omega arith) (λ i. search rules)) (sym c.if-not-is_count.ensures)
 
 pub returns-then-not-is_count-2 : goal.returns-then-not-is_count-2
 returns-then-not-is_count-2 c =
-    outputs _ _ _ c.sixteen.ensures (sym c.is_count.ensures ∙ c.if-not-is_count.false) (sym c.is_count-2.ensures ∙ c.if-not-is_count-2.true)
+    outputs _ _ _ (known_by _ (omega arith) (λ i. search rules)) (sym c.if-not-is_count.ensures) (sym c.if-not-is_count-2.ensures)
+
+pub slice_bounds-sizes-end : goal.slice_bounds-sizes-end
+slice_bounds-sizes-end c = omega (arith, count-to c.args.n (sym c.if-not-is_count.ensures))
+
+pub slice_bounds-capped-end : goal.slice_bounds-capped-end
+slice_bounds-capped-end c = sym (length-take-le c.args.n c.args.sizes (omega (arith, count-to c.args.n (sym c.if-not-is_count.ensures))))
 
 pub capped-total-requires : goal.capped-total-requires
-capped-total-requires c = (
-  omega (arith, count-to c.args.n (sym c.is_count.ensures ∙ c.if-not-is_count.false)),
-  c.sixteen.ensures,
-  omega (arith, count-to c.args.m (sym c.is_count-2.ensures ∙ c.if-not-is_count-2.false)),
-)
+capped-total-requires c = omega (arith, count-to c.args.m (sym c.if-not-is_count-2.ensures))
 
 pub returns-then-total-eq0 : goal.returns-then-total-eq0
 returns-then-total-eq0 c =
-    let outputs-count = sym c.is_count-2.ensures ∙ c.if-not-is_count-2.false in
-    zero-size _ _ _ c.sixteen.ensures (sym c.is_count.ensures ∙ c.if-not-is_count.false) outputs-count
-    (none _ _ _ c.capped-total.ensures outputs-count c.if-total-eq0.true)
+    zero-size _ _ _ (known_by _ (omega arith) (λ i. search rules)) (sym c.if-not-is_count.ensures) (sym c.if-not-is_count-2.ensures)
+    (none _ _ _ c.capped-total.ensures (sym c.if-not-is_count-2.ensures) c.if-total-eq0.true)
 
 pub returns-then-total-gt-LIMIT : goal.returns-then-total-gt-LIMIT
 returns-then-total-gt-LIMIT c =
-    by_last _ _ _ c.sixteen.ensures (sym c.is_count.ensures ∙ c.if-not-is_count.false) (sym c.is_count-2.ensures ∙ c.if-not-is_count-2.false)
+    by_last _ _ _ (known_by _ (omega arith) (λ i. search rules)) (sym c.if-not-is_count.ensures) (sym c.if-not-is_count-2.ensures)
     true (some _ _ _ c.capped-total.ensures c.if-total-eq0.false) (above-limit _ _ _ c.capped-total.ensures c.if-total-gt-LIMIT.true)
 
 pub returns : goal.returns
 returns c =
-    by_last _ _ _ c.sixteen.ensures (sym c.is_count.ensures ∙ c.if-not-is_count.false) (sym c.is_count-2.ensures ∙ c.if-not-is_count-2.false)
+    by_last _ _ _ (known_by _ (omega arith) (λ i. search rules)) (sym c.if-not-is_count.ensures) (sym c.if-not-is_count-2.ensures)
     false (some _ _ _ c.capped-total.ensures c.if-total-eq0.false) (within-limit _ _ _ c.capped-total.ensures c.if-total-gt-LIMIT.false)
