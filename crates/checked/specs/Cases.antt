@@ -9,8 +9,7 @@ use Rattle.layout.specs.Layout.{laid_of, entries}
 use Rattle.layout.specs.Layout.{Laid}
 use Rattle.lookup.specs.Table as Table
 use Rattle.cell.specs.declared.Cell.{Cell}
-use Rattle.weights.specs.Rule.{ranged_cell}
-use Rattle.weights.specs.Rule.{RangedCell}
+use Rattle.weights.specs.Rule.{RangedCell, ranged_cell}
 use Rattle.cubes.specs.Blends.{Blend, pyramid, prism, trilinear}
 use Rattle.cubes.specs.Cube as Cube
 

@@ -4,11 +4,18 @@ use crate::{floats, print};
 use cell::Cell;
 use std::io::{self, Write};
 
+// What a refused weight is printed as.
+const ZERO_CELL: Cell = Cell {
+    x: 0,
+    x_n: 0,
+    w: 0.0,
+};
+
 pub(crate) fn weight(list: &mut Words, out: &mut impl Write) -> io::Result<()> {
     let g = words::byte(list);
     let ranged = weights::ranged_256(g, words::byte(list));
-    let cell = ranged.cell;
-    print::number(out, ranged.refusal)?;
+    let cell = ranged.unwrap_or(ZERO_CELL);
+    print::number(out, outcome::number(ranged))?;
     print::word(out, words::low_word(cell.x))?;
     print::word(out, words::low_word(cell.x_n))?;
     print::word(out, patterns::bits(cell.w))
@@ -34,12 +41,10 @@ fn summed_cell(sum: u32, c: Cell) -> u32 {
 
 pub(crate) fn weights(list: &mut Words, out: &mut impl Write) -> io::Result<()> {
     let ranged = weights::create_ranged_256(words::byte(list));
-    let all = ranged.weights;
     let mut sum: u32 = 0x811c9dc5;
-    for i in 0..256 {
-        let c = all[i];
-        sum = summed_cell(sum, c);
+    for c in &ranged.unwrap_or([ZERO_CELL; 256]) {
+        sum = summed_cell(sum, *c);
     }
-    print::number(out, ranged.refusal)?;
+    print::number(out, outcome::number(ranged))?;
     print::word(out, sum)
 }

@@ -12,6 +12,7 @@ mod record;
 mod slabs;
 mod words;
 
+use cubes::Method;
 use std::io::{self, BufWriter, Read, Write};
 use words::Words;
 
@@ -31,9 +32,9 @@ fn main(rt: HostRuntime) -> io::Result<()> {
             2 => calls::layout(&mut list, &mut out)?,
             4 => cells::weight(&mut list, &mut out)?,
             5 => cells::weights(&mut list, &mut out)?,
-            6 => blends::cube_of(&mut list, &mut out, kind)?,
-            7 => blends::cube_of(&mut list, &mut out, kind)?,
-            8 => blends::cube_of(&mut list, &mut out, kind)?,
+            6 => blends::cube_of(&mut list, &mut out, Method::Pyramidal)?,
+            7 => blends::cube_of(&mut list, &mut out, Method::Prismatic)?,
+            8 => blends::cube_of(&mut list, &mut out, Method::Trilinear)?,
             9 => cells::constant(&mut list, &mut out)?,
             10 => elements::clut(&mut list, &mut out)?,
             11 => {
