@@ -84,6 +84,7 @@ pub fn tetra(
 }
 
 // v of `most` as a number from 0 to 1: one rounded division.
+#[tactic(auto, unfolding(crate::specs::Numbers::unit_of))]
 pub fn unit(v: u16, most: u16) -> f32
     ensures { result ≡ unit_of most v }
 {

@@ -1,12 +1,10 @@
 -- Document 01, "Finding the cell": what a cell of one ink is. Definitions only.
-use Rattle.std.specs.Prelude.{ℕ, ◌+◌, ◌-◌, ◌*◌, ◌≤◌, min, Bool, true, false, cond, is_nan, nat_lt, Float}
+use Rattle.std.specs.Prelude.{ℕ, Option, None, Some, ◌+◌, ◌-◌, ◌*◌, ◌≤◌, min, Bool, true, false, cond, is_nan, nat_lt, Float}
 use Rattle.std.specs.Float.{binary32}
 use Rattle.std.specs.Float.Ieee.{sub, mul, lt, to_unsigned}
 use Rattle.binary32.specs.Numbers.{plus_zero, one, of_whole}
 use Rattle.binary32.specs.Range.{Below}
 use Rattle.cell.specs.declared.Cell.{Cell}
-use Rattle.cell.specs.declared.Clipped.{Clipped}
-use Rattle.cell.specs.declared.Found.{Found}
 
 -- grid line k as a float
 abbrev pub line : ℕ → Float
@@ -16,9 +14,9 @@ line k = of_whole k
 unfoldable pub ink_of : Float → Float
 ink_of x = cond (lt one x) one (cond (lt plus_zero x) x plus_zero)
 
--- document 02, E8: what clipping says, that its input is NaN, for which a lookup's number is 16, or the ink
-unfoldable pub clip_of : Float → Clipped
-clip_of x = cond (is_nan x) Clipped.NotANumber (Clipped.Ink (ink_of x))
+-- document 02, E8: what clipping says: nothing of a NaN, for which a lookup's number is 16, else the ink
+unfoldable pub clip_of : Float → Option Float
+clip_of x = cond (is_nan x) None (Some (ink_of x))
 
 -- the last grid line, g - 1
 abbrev pub scale_of : ℕ → Float
@@ -60,9 +58,9 @@ cell_high x g = let p = product_of x g in cell_at p (next_of (whole_of p) g)
 unfoldable pub ink_cell : ℕ → ℕ → Float → Cell
 ink_cell i g x = cond (nat_lt i 4) (cell_low x g) (cell_high x g)
 
--- what the cell rule says of an input x: that it is NaN, or its cell as a number, c
-abbrev pub found_of : Float → Cell → Found
-found_of x c = cond (is_nan x) Found.NotANumber (Found.At c)
+-- what the cell rule says of an input x: nothing of a NaN, else its cell as a number, c
+abbrev pub found_of : Float → Cell → Option Cell
+found_of x c = cond (is_nan x) None (Some c)
 
 -- a cell with its nodes as distances: s entries from one node to the next
 abbrev pub scale : ℕ → Cell → Cell

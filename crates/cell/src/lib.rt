@@ -1,7 +1,7 @@
 // Finding the cell of one ink: which two grid lines an input lies between, and how far along.
 #![tactic(auto)]
 
-ghost use Rattle.std.specs.Prelude.{◌≡◌, ◌-◌, if◌then◌else◌, nat_lt};
+ghost use Rattle.std.specs.Prelude.{◌≡◌, ◌-◌, ◌<◌, if◌then◌else◌, nat_lt};
 ghost use Rattle.std.specs.Float.{binary32};
 ghost use Rattle.std.specs.Float.Ieee.{mul};
 ghost use Rattle.binary32.specs.Range.{UpTo, Below};
@@ -15,34 +15,20 @@ pub struct Cell {
     pub w: f32,
 }
 
-// What clipping says of its input: the ink, from +0.0 to 1, or that it is NaN.
-#[derive(Clone, Copy)]
-pub enum Clipped {
-    Ink(f32),
-    NotANumber,
-}
-
-// What the cell rule says of its input: the cell, or that it is NaN.
-#[derive(Clone, Copy)]
-pub enum Found {
-    At(Cell),
-    NotANumber,
-}
-
-// NaN is said to be one. Of numbers, above 1 is 1, above 0 is itself, and all else, both zeros included, is +0.0.
-pub fn clip(x: f32) -> Clipped
+// The ink of a number, or none of a NaN. Above 1 is 1, above 0 is itself, and all else, both zeros included, is +0.0.
+pub fn clip(x: f32) -> Option<f32>
     ensures { result ≡ clip_of x }
 {
-    if x != x {
-        return Clipped::NotANumber;
+    if x.is_nan() {
+        return None;
     }
     if x > 1.0 {
-        return Clipped::Ink(1.0);
+        return Some(1.0);
     }
     if x > 0.0 {
-        return Clipped::Ink(x);
+        return Some(x);
     }
-    Clipped::Ink(0.0)
+    Some(0.0)
 }
 
 // The whole part of a product, from its exponent and its fraction: of the 24 digits, the leading one
@@ -53,7 +39,7 @@ fn whole_part(p: f32) -> usize
     ensures { result ≡ whole_of p }
 {
     let b = f32::to_bits(p);
-    let behind = std::num::wrapping_sub_u32(150, b / 0x80_0000);
+    let behind = 150u32.wrapping_sub(b / 0x80_0000);
     if behind > 23 {
         return 0;
     }
@@ -75,10 +61,7 @@ fn round_up(p: f32, lower: usize) -> usize
 fn last_line(g: u8) -> u8
     ensures { result ≡ g - 1 }
 {
-    if g == 0 {
-        return 0;
-    }
-    g - 1
+    g.saturating_sub(1)
 }
 
 // The product that decides the cell: the ink times g - 1, rounded. It is below 255.
@@ -104,13 +87,10 @@ fn cell_at(p: f32, lower: usize, upper: usize) -> Cell
 
 // The upper node of an ink from 5 up: the one after the lower node, but never past the last line.
 fn next_node(lower: usize, g: u8) -> usize
+    requires { lower < 255 }
     ensures { result ≡ next_of lower g }
 {
-    let last = last_line(g) as usize;
-    if lower >= last {
-        return last;
-    }
-    lower + 1
+    (lower + 1).min(last_line(g) as usize)
 }
 
 // The upper node of ink i, counted from 0: inks 1 to 4 take the product rounded up, inks 5 and up the next node.
@@ -124,29 +104,23 @@ fn upper_node(i: usize, p: f32, lower: usize, g: u8) -> usize
     next_node(lower, g)
 }
 
-// The cell of ink i, counted from 0, in a grid of g lines, or that its input is NaN.
-pub fn ink_cell(i: usize, x: f32, g: u8) -> Found
+// The cell of ink i, counted from 0, in a grid of g lines; none of a NaN.
+pub fn ink_cell(i: usize, x: f32, g: u8) -> Option<Cell>
     ensures { result ≡ found_of x (ink_cell i g x) }
 {
-    let clipped = clip(x);
-    let Clipped::Ink(ink) = clipped else {
-        return Found::NotANumber;
-    };
+    let ink = clip(x)?;
     let p = product(ink, g);
     let lower = whole_part(p);
-    Found::At(cell_at(p, lower, upper_node(i, p, lower, g)))
+    Some(cell_at(p, lower, upper_node(i, p, lower, g)))
 }
 
 // The same with the nodes as distances in table entries, where `filling` entries stand from one node of the ink to the next.
-pub fn placed(i: usize, x: f32, g: u8, filling: u32) -> Found
+pub fn placed(i: usize, x: f32, g: u8, filling: u32) -> Option<Cell>
     ensures { result ≡ found_of x (scale filling (ink_cell i g x)) }
 {
-    let of = ink_cell(i, x, g);
-    let Found::At(c) = of else {
-        return Found::NotANumber;
-    };
+    let c = ink_cell(i, x, g)?;
     let s = filling as usize;
-    Found::At(Cell {
+    Some(Cell {
         x: c.x * s,
         x_n: c.x_n * s,
         w: c.w,

@@ -1,5 +1,4 @@
--- Where the corners stand (Reach), what the checks pass (Accepted), that a method sees eight corners alone (Kept), one outcome each (Unique).
+-- Where the corners stand (Reach), what the checks pass (Accepted), one outcome each (Unique).
 pub mod Reach
 pub mod Accepted
-pub mod Kept
 pub mod Unique

@@ -5,23 +5,21 @@ ghost use Rattle.binary32.specs.Blend as Blend;
 ghost use Rattle.cubes.specs.Blends as Blends;
 ghost use Rattle.cubes.specs.Corners.{corner_at};
 
-use crate::Corners;
+use crate::Inks;
+use crate::corners::Corners;
 
 // Whether both a and b are above c.
 fn both_above(a: f32, b: f32, c: f32) -> bool
     ensures { result ≡ (lt c a && lt c b) }
 {
-    if a > c {
-        return b > c;
-    }
-    false
+    a > c && b > c
 }
 
 // c0, then the term of blue, of red and of green.
-fn terms(c0: f32, c1: f32, c2: f32, c3: f32, dr: f32, dg: f32, db: f32) -> f32
-    ensures { result ≡ Blend.terms c0 c1 c2 c3 db dr dg }
+fn terms(c0: f32, rise: Inks<f32>, weights: Inks<f32>) -> f32
+    ensures { result ≡ Blend.terms c0 rise.blue rise.red rise.green weights.blue weights.red weights.green }
 {
-    c0 + c1 * db + c2 * dr + c3 * dg
+    c0 + rise.blue * weights.blue + rise.red * weights.red + rise.green * weights.green
 }
 
 // p - q - r + s, left to right.
@@ -31,45 +29,69 @@ fn bend(p: f32, q: f32, r: f32, s: f32) -> f32
     p - q - r + s
 }
 
-// First case dr > db and dg > db, second db > dr and dg > dr, third the rest.
-pub(crate) fn pyramid(c: Corners, dr: f32, dg: f32, db: f32) -> f32
-    ensures { result ≡ Blends.pyramid (corner_at c) dr dg db }
+// First case: red and green weigh more than blue; second: green and blue more than red; third the rest.
+pub(crate) fn pyramid(c: Corners<f32>, weights: Inks<f32>) -> f32
+    ensures { result ≡ Blends.pyramid (corner_at c) weights.red weights.green weights.blue }
 {
-    if both_above(dr, dg, db) {
-        return terms(c.low, c.rgb - c.rg, c.r - c.low, c.g - c.low, dr, dg, db)
-            + bend(c.low, c.g, c.r, c.rg) * (dr * dg);
+    let Inks { red, green, blue } = weights;
+    if both_above(red, green, blue) {
+        let rise = Inks {
+            red: c.r - c.low,
+            green: c.g - c.low,
+            blue: c.rgb - c.rg,
+        };
+        return terms(c.low, rise, weights) + bend(c.low, c.g, c.r, c.rg) * (red * green);
     }
-    if both_above(db, dg, dr) {
-        return terms(c.low, c.b - c.low, c.rgb - c.gb, c.g - c.low, dr, dg, db)
-            + bend(c.low, c.g, c.b, c.gb) * (dg * db);
+    if both_above(blue, green, red) {
+        let rise = Inks {
+            red: c.rgb - c.gb,
+            green: c.g - c.low,
+            blue: c.b - c.low,
+        };
+        return terms(c.low, rise, weights) + bend(c.low, c.g, c.b, c.gb) * (green * blue);
     }
-    terms(c.low, c.b - c.low, c.r - c.low, c.rgb - c.rb, dr, dg, db)
-        + bend(c.low, c.r, c.b, c.rb) * (db * dr)
+    let rise = Inks {
+        red: c.r - c.low,
+        green: c.rgb - c.rb,
+        blue: c.b - c.low,
+    };
+    terms(c.low, rise, weights) + bend(c.low, c.r, c.b, c.rb) * (blue * red)
 }
 
-// First case db >= dr.
-pub(crate) fn prism(c: Corners, dr: f32, dg: f32, db: f32) -> f32
-    ensures { result ≡ Blends.prism (corner_at c) dr dg db }
+// First case: blue weighs at least as much as red.
+pub(crate) fn prism(c: Corners<f32>, weights: Inks<f32>) -> f32
+    ensures { result ≡ Blends.prism (corner_at c) weights.red weights.green weights.blue }
 {
-    if db >= dr {
-        return terms(c.low, c.b - c.low, c.rb - c.b, c.g - c.low, dr, dg, db)
-            + bend(c.low, c.g, c.b, c.gb) * (dg * db)
-            + bend(c.b, c.gb, c.rb, c.rgb) * (dr * dg);
+    let Inks { red, green, blue } = weights;
+    if blue >= red {
+        let rise = Inks {
+            red: c.rb - c.b,
+            green: c.g - c.low,
+            blue: c.b - c.low,
+        };
+        return terms(c.low, rise, weights)
+            + bend(c.low, c.g, c.b, c.gb) * (green * blue)
+            + bend(c.b, c.gb, c.rb, c.rgb) * (red * green);
     }
-    terms(c.low, c.rb - c.r, c.r - c.low, c.g - c.low, dr, dg, db)
-        + bend(c.r, c.rg, c.rb, c.rgb) * (dg * db)
-        + bend(c.low, c.g, c.r, c.rg) * (dr * dg)
+    let rise = Inks {
+        red: c.r - c.low,
+        green: c.g - c.low,
+        blue: c.rb - c.r,
+    };
+    terms(c.low, rise, weights)
+        + bend(c.r, c.rg, c.rb, c.rgb) * (green * blue)
+        + bend(c.low, c.g, c.r, c.rg) * (red * green)
 }
 
 // Along red, then green, then blue.
-pub(crate) fn trilinear(c: Corners, dr: f32, dg: f32, db: f32) -> f32
-    ensures { result ≡ Blends.trilinear (corner_at c) dr dg db }
+pub(crate) fn trilinear(c: Corners<f32>, weights: Inks<f32>) -> f32
+    ensures { result ≡ Blends.trilinear (corner_at c) weights.red weights.green weights.blue }
 {
-    let c00 = binary32::lerp(c.low, c.r, dr);
-    let c10 = binary32::lerp(c.g, c.rg, dr);
-    let c01 = binary32::lerp(c.b, c.rb, dr);
-    let c11 = binary32::lerp(c.gb, c.rgb, dr);
-    let c0 = binary32::lerp(c00, c10, dg);
-    let c1 = binary32::lerp(c01, c11, dg);
-    binary32::lerp(c0, c1, db)
+    let c00 = binary32::lerp(c.low, c.r, weights.red);
+    let c10 = binary32::lerp(c.g, c.rg, weights.red);
+    let c01 = binary32::lerp(c.b, c.rb, weights.red);
+    let c11 = binary32::lerp(c.gb, c.rgb, weights.red);
+    let c0 = binary32::lerp(c00, c10, weights.green);
+    let c1 = binary32::lerp(c01, c11, weights.green);
+    binary32::lerp(c0, c1, weights.blue)
 }

@@ -2,147 +2,90 @@
 #![tactic(auto)]
 
 mod blends;
-mod places;
+mod corners;
 mod refusals;
 
 ghost use Rattle.std.specs.Prelude.{◌≡◌, ◌≤◌, length};
+ghost use Rattle.outcome.specs.Refused.{number_in};
 ghost use Rattle.lists.specs.Buffer.{written};
-ghost use Rattle.cubes.specs.Blends.{pyramid, prism, trilinear};
 ghost use Rattle.cubes.specs.Cube.{entries_at, Blended};
-ghost use Rattle.cubes.specs.Corners as Eight;
+ghost use Rattle.cubes.specs.Corners.{corner_at, Reach, blend_of};
 
 use cell::Cell;
+use corners::Corners;
+use outcome::Refusal;
 
 // Which of the three blends.
 #[derive(Clone, Copy)]
-enum Method {
+pub enum Method {
     Pyramidal,
     Prismatic,
     Trilinear,
 }
 
-// Where the entries of the eight corners start. A corner is named by the inks that stand at their upper node.
+// Something for each of the three inks.
 #[derive(Clone, Copy)]
-struct Starts {
-    low: usize,
-    r: usize,
-    g: usize,
-    b: usize,
-    rg: usize,
-    rb: usize,
-    gb: usize,
-    rgb: usize,
+pub struct Inks<T> {
+    pub red: T,
+    pub green: T,
+    pub blue: T,
 }
 
-// What stands at the eight corners, for one output.
+// A table of three inks of one size: on each axis g lines, at each node m entries.
 #[derive(Clone, Copy)]
-struct Corners {
-    low: f32,
-    r: f32,
-    g: f32,
-    b: f32,
-    rg: f32,
-    rb: f32,
-    gb: f32,
-    rgb: f32,
+pub struct Cube<'a> {
+    pub g: u8,
+    pub m: usize,
+    pub entries: &'a [f32],
 }
 
-// The method's blend of eight corners.
-fn blend(method: Method, c: Corners, dr: f32, dg: f32, db: f32) -> f32
-    ensures { result ≡ Eight.blend_of method (Eight.corner_at c) dr dg db }
-{
-    match method {
-        Method::Pyramidal => blends::pyramid(c, dr, dg, db),
-        Method::Prismatic => blends::prism(c, dr, dg, db),
-        Method::Trilinear => blends::trilinear(c, dr, dg, db),
+impl Method {
+    // The method's blend of what stands at eight corners.
+    fn blend(self, c: Corners<f32>, weights: Inks<f32>) -> f32
+        ensures { result ≡ blend_of self (corner_at c) weights.red weights.green weights.blue }
+    {
+        match self {
+            Method::Pyramidal => blends::pyramid(c, weights),
+            Method::Prismatic => blends::prism(c, weights),
+            Method::Trilinear => blends::trilinear(c, weights),
+        }
     }
 }
 
 // Writes the m answers.
+#[tactic(auto, unfolding(lists::specs::Buffer::written))]
 fn write_answers(
     method: Method,
-    p: Starts,
-    dr: f32,
-    dg: f32,
-    db: f32,
-    m: usize,
-    cube: &[f32],
+    cube: Cube,
+    starts: Corners<usize>,
+    weights: Inks<f32>,
     answer: &mut [f32],
 )
-    requires { (m ≤ length answer.old) × Eight.Reach p m (length cube.now) }
-    ensures { answer.new ≡ written (λ output. Eight.blend_of method (entries_at (Eight.start_at p) cube.now output) dr dg db) m answer.old }
+    requires room { cube.m ≤ length answer.old }
+    requires reach { Reach starts cube.m (length cube.entries.now) }
+    ensures { answer.new ≡ written (λ output. blend_of method (entries_at (corner_at starts) cube.entry.entries.now output) weights.red weights.green weights.blue) cube.entry.m answer.old }
 {
-    let mut output: usize = 0;
-    while output < m {
-        let c = places::fetch(p, cube, output, m);
-        answer[output] = blend(method, c, dr, dg, db);
-        output += 1;
+    for output in 0..cube.m {
+        answer[output] = method.blend(cube.corners(starts, output), weights);
     }
 }
 
-// A call of a method: its number, and the m answers in the first entries of `answer` where the number is 0.
-fn interpolate(
+// Refusals 2, 3, 6, 8 and 10 of document 01. Where there is none, the m answers stand in the first entries of `answer`; refused, nothing is written.
+pub fn interpolate(
     method: Method,
-    cx: Cell,
-    cy: Cell,
-    cz: Cell,
-    g: u8,
-    m: usize,
-    cube: &[f32],
+    cells: Inks<Cell>,
+    cube: Cube,
     answer: &mut [f32],
-) -> u32
-    ensures { Blended (Eight.blend_of method) cx cy cz g m cube.now answer.old result answer.new }
+) -> Result<(), Refusal>
+    ensures { Blended (blend_of method) cells.red cells.green cells.blue cube.entry.g cube.entry.m cube.entry.entries.now answer.old (number_in result) answer.new }
 {
-    let number = refusals::checked(cx, cy, cz, g, m, cube.len(), answer.len());
-    if number != 0 {
-        return number;
-    }
-    let p = places::starts(cx, cy, cz, g, m);
-    write_answers(method, p, cx.w, cy.w, cz.w, m, cube, answer);
-    0
-}
-
-// By pyramids. Of the cells, cx is red's, cy green's and cz blue's; 2, 3, 6, 8 or 10 where the call is refused.
-pub fn pyramidal(
-    cx: Cell,
-    cy: Cell,
-    cz: Cell,
-    g: u8,
-    m: usize,
-    cube: &[f32],
-    answer: &mut [f32],
-) -> u32
-    ensures { Blended pyramid cx cy cz g m cube.now answer.old result answer.new }
-{
-    interpolate(Method::Pyramidal, cx, cy, cz, g, m, cube, answer)
-}
-
-// By prisms. Cells and numbers as for `pyramidal`.
-pub fn prismatic(
-    cx: Cell,
-    cy: Cell,
-    cz: Cell,
-    g: u8,
-    m: usize,
-    cube: &[f32],
-    answer: &mut [f32],
-) -> u32
-    ensures { Blended prism cx cy cz g m cube.now answer.old result answer.new }
-{
-    interpolate(Method::Prismatic, cx, cy, cz, g, m, cube, answer)
-}
-
-// Along red, green and blue in turn. Cells and numbers as for `pyramidal`.
-pub fn trilinear(
-    cx: Cell,
-    cy: Cell,
-    cz: Cell,
-    g: u8,
-    m: usize,
-    cube: &[f32],
-    answer: &mut [f32],
-) -> u32
-    ensures { Blended trilinear cx cy cz g m cube.now answer.old result answer.new }
-{
-    interpolate(Method::Trilinear, cx, cy, cz, g, m, cube, answer)
+    cube.check(cells, answer.len())?;
+    let starts = cube.starts(cells);
+    let weights = Inks {
+        red: cells.red.w,
+        green: cells.green.w,
+        blue: cells.blue.w,
+    };
+    write_answers(method, cube, starts, weights, answer);
+    Ok(())
 }

@@ -1,72 +1,57 @@
 // The refusals 2, 3, 6, 8 and 10 of a cube method.
-ghost use Rattle.std.specs.Prelude.{◌≡◌, ◌&&◌, ◌||◌, eqb};
+ghost use Rattle.std.specs.Prelude.{◌≡◌, ◌&&◌, ◌||◌, eqb, length};
+ghost use Rattle.outcome.specs.Refused.{number_in};
 ghost use Rattle.cubes.specs.Cube.{on_grid, refusal};
 
+use crate::{Cube, Inks};
 use cell::Cell;
+use outcome::Refusal;
 
 // m is 3 or 4.
 fn is_output_count(m: usize) -> bool
     ensures { result ≡ (eqb m 3 || eqb m 4) }
 {
-    if m == 3 {
-        return true;
-    }
-    m == 4
+    matches!(m, 3 | 4)
 }
 
 // Both nodes of a cell are among the lines 0 to g - 1.
+#[tactic(auto, unfolding(crate::specs::Cube::on_grid))]
 fn on_grid(c: Cell, g: u8) -> bool
     ensures { result ≡ on_grid c g }
 {
-    let lower = c.x;
-    let upper = c.x_n;
     let size = g as usize;
-    if lower < size {
-        return upper < size;
-    }
-    false
+    c.x < size && c.x_n < size
 }
 
 // The nodes of all three cells are.
-fn inside(cx: Cell, cy: Cell, cz: Cell, g: u8) -> bool
-    ensures { result ≡ (on_grid cx g && on_grid cy g && on_grid cz g) }
+fn inside(cells: Inks<Cell>, g: u8) -> bool
+    ensures { result ≡ (on_grid cells.red g && on_grid cells.green g && on_grid cells.blue g) }
 {
-    if !on_grid(cx, g) {
-        return false;
-    }
-    if !on_grid(cy, g) {
-        return false;
-    }
-    on_grid(cz, g)
+    on_grid(cells.red, g) && on_grid(cells.green, g) && on_grid(cells.blue, g)
 }
 
-// The number of the first refusal that applies to a table of `entries` and a buffer with `room`, or 0.
-pub(crate) fn checked(
-    cx: Cell,
-    cy: Cell,
-    cz: Cell,
-    g: u8,
-    m: usize,
-    entries: usize,
-    room: usize,
-) -> u32
-    ensures { result ≡ refusal cx cy cz g m entries room }
-{
-    if !is_output_count(m) {
-        return 2;
+impl Cube<'_> {
+    // The first refusal that applies to the cube, three cells and a buffer with `room`.
+    #[tactic(auto, using(crate::proofs::Reach::total_is), unfolding(crate::specs::Cube::refusal))]
+    pub(crate) fn check(self, cells: Inks<Cell>, room: usize) -> Result<(), Refusal>
+        ensures { number_in result ≡ refusal cells.red cells.green cells.blue self.entry.g self.entry.m (length self.entry.entries.now) room }
+    {
+        if !is_output_count(self.m) {
+            return Err(Refusal::OutputInks);
+        }
+        if self.g == 0 {
+            return Err(Refusal::ZeroSize);
+        }
+        let size = self.g as usize;
+        if self.entries.len() < size * size * size * self.m {
+            return Err(Refusal::ShortTable);
+        }
+        if room < self.m {
+            return Err(Refusal::ShortAnswer);
+        }
+        if !inside(cells, self.g) {
+            return Err(Refusal::OutsideGrid);
+        }
+        Ok(())
     }
-    if g == 0 {
-        return 3;
-    }
-    let size = g as usize;
-    if entries < size * size * size * m {
-        return 6;
-    }
-    if room < m {
-        return 8;
-    }
-    if !inside(cx, cy, cz, g) {
-        return 10;
-    }
-    0
 }

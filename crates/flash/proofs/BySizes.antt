@@ -11,8 +11,7 @@ use Rattle.outcome.proofs.Refused.{neither}
 use Rattle.lists.specs.Buffer.{written, left}
 use Rattle.lists.proofs.Buffer.{length-written, written_at, written-past}
 use Rattle.layout.specs.declared.MultidimensionalLut.{MultidimensionalLut}
-use Rattle.layout.specs.declared.Laid.{Laid}
-use Rattle.layout.specs.Layout.{laid_of, refused_by, IsLayout, entries}
+use Rattle.layout.specs.Layout.{Laid, laid_of, refused_by, IsLayout, entries}
 use Rattle.layout.proofs.BySizes.{laid-is-layout, laid-inks, laid-outputs, laid-size}
 use Rattle.layout.proofs.Facts.{facts-of, laid-again, unused-at}
 use Rattle.layout.proofs.Laws.{inks-from, inks-to, first-filling}

@@ -1,12 +1,12 @@
 -- Four bytes and their word. `joined_of`: the word of four bytes; `word-by`: the word at a place; `joined_back`: a word from its bytes; `byte-back`: a byte from its
--- word; `word_small`: how large a word is; `turned-joined`, `turned-byte`: a word turned. Assumes nothing.
-use Rattle.std.proofs.Common.{◌≡◌, ℕ, zero, suc, ◌+◌, ◌*◌, ◌/◌, ◌%◌, ◌<◌, List, [], ◌∷◌, get_or, sym, refl, ap, ◌∙◌, add-zero, mod-lt, div-one, arith}
+-- word; `word_small`: how large a word is; `put-byte`: its bytes as the library puts them. Assumes nothing.
+use Rattle.std.proofs.Common.{◌≡◌, ℕ, zero, suc, ◌+◌, ◌*◌, ◌/◌, ◌%◌, ◌<◌, List, [], ◌∷◌, get_or, sym, refl, ap, ◌∙◌, add-zero, div-one, arith}
 use native.Mathlib.Nat.{div-div-eq-div-mul}
+use Rattle.std.specs.Int.{w32, to_be_bytes}
 use Rattle.lists.specs.Lists.{tabulate}
 use Rattle.lists.specs.Bytes.{big_endian}
 use Rattle.lists.proofs.Lists.{tabulate-same}
 use Rattle.flash.specs.File.{word_at, byte_of}
-use Rattle.flash.specs.Turned.{last_byte, turned_word}
 
 pub joined_of : (a b c d : ℕ) → big_endian (a ∷ b ∷ c ∷ d ∷ []) ≡ a * 16_777_216 + b * 65_536 + c * 256 + d
 unfolding big_endian
@@ -82,27 +82,12 @@ pub word_same : (xs ys : List ℕ) (a b : ℕ) → ((i : ℕ) → i < 4 → get_
 unfolding word_at
 word_same xs ys a b same = ap big_endian (tabulate-same 4 (λ i. get_or xs (a + i) 0) (λ i. get_or ys (b + i) 0) same)
 
--- ---- turned
+-- ---- as the library puts a word
 
-turned-of : (w : ℕ) → turned_word w ≡ w / 1 % 256 * 16_777_216 + w / 256 % 256 * 65_536 + w / 65_536 % 256 * 256 + w / 16_777_216 % 256
-unfolding turned_word tabulate last_byte
-turned-of w = joined_of (w / 1 % 256) (w / 256 % 256) (w / 65_536 % 256) (w / 16_777_216 % 256)
-
--- the word of four bytes that were joined the other way round
-pub turned-joined : (a b c d : ℕ) → a < 256 → b < 256 → c < 256 → d < 256 → turned_word (big_endian (d ∷ c ∷ b ∷ a ∷ [])) ≡ a * 16_777_216 + b * 65_536 + c * 256 + d
-turned-joined a b c d fa fb fc fd =
-    ap turned_word (joined_of d c b a) ∙ turned-of (d * 16_777_216 + c * 65_536 + b * 256 + a)
-    ∙ (λ k. fourth d c b a fd fc fb fa k * 16_777_216 + third d c b a fd fc fb fa k * 65_536 + second d c b a fd fc fb fa k * 256 + first d c b a fd fc fb fa k)
-
--- its bytes, the last counting most, are the word's, the first counting most
-module _ (w : ℕ) where
-  low : (k : ℕ) → k % 256 < 256
-  low k = mod-lt k (omega arith)
-
-  pub turned-byte : (i : ℕ) → i < 4 → last_byte (turned_word w) i ≡ byte_of w i
-  unfolding last_byte byte_of
-  turned-byte zero h = ap (λ (v : ℕ). last_byte v 0) (turned-of w) ∙ fourth _ _ _ _ (low (w / 1)) (low (w / 256)) (low (w / 65_536)) (low (w / 16_777_216))
-  turned-byte (suc zero) h = ap (λ (v : ℕ). last_byte v 1) (turned-of w) ∙ third _ _ _ _ (low (w / 1)) (low (w / 256)) (low (w / 65_536)) (low (w / 16_777_216))
-  turned-byte (suc (suc zero)) h = ap (λ (v : ℕ). last_byte v 2) (turned-of w) ∙ second _ _ _ _ (low (w / 1)) (low (w / 256)) (low (w / 65_536)) (low (w / 16_777_216))
-  turned-byte (suc (suc (suc zero))) h = ap (λ (v : ℕ). last_byte v 3) (turned-of w) ∙ first _ _ _ _ (low (w / 1)) (low (w / 256)) (low (w / 65_536)) (low (w / 16_777_216))
-  turned-byte (suc (suc (suc (suc i)))) h = absurd (omega arith)
+pub put-byte : (w i : ℕ) → i < 4 → get_or (to_be_bytes w32 w) i 0 ≡ byte_of w i
+unfolding byte_of
+put-byte w zero h = refl
+put-byte w (suc zero) h = refl
+put-byte w (suc (suc zero)) h = refl
+put-byte w (suc (suc (suc zero))) h = ap (λ (v : ℕ). v % 256) (sym (div-one w))
+put-byte w (suc (suc (suc (suc i)))) h = absurd (omega arith)

@@ -3,6 +3,7 @@
 pub mod Sums
 pub mod Fours
 pub mod Filling
+pub mod Parts
 pub mod Bodies
 pub mod BlockWords
 pub mod Files

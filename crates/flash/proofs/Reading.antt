@@ -6,8 +6,7 @@ use Rattle.outcome.proofs.Refused.{refused-first, kept, given, neither, passed}
 use Rattle.lists.specs.Buffer.{written, left}
 use Rattle.lists.proofs.Buffer.{unwritten, length-left}
 use Rattle.lists.proofs.Lists.{length-tabulate, tabulate-bytes}
-use Rattle.layout.specs.declared.Laid.{Laid}
-use Rattle.layout.specs.Layout.{refused_by, IsLayout, LaidBy}
+use Rattle.layout.specs.Layout.{Laid, refused_by, IsLayout, LaidBy}
 use Rattle.layout.proofs.BySizes.{laid-is-layout, laid-zeroed}
 use Rattle.flash.specs.Refusals.{block_refusal, head_used, inks_in, outputs_in, sizes_in, layout_in, total_in, head_refusal, rest_refusal, read_refusal}
 use Rattle.flash.specs.Read.{FileLaid, entry_in, TableRead}

@@ -7,8 +7,7 @@ use Rattle.outcome.specs.Outcome.{or_else}
 use Rattle.lists.specs.Lists.{tabulate}
 use Rattle.lists.proofs.Lists.{length-tabulate, get_or-tabulate, bytes-at}
 use Rattle.layout.specs.declared.MultidimensionalLut.{MultidimensionalLut}
-use Rattle.layout.specs.declared.Laid.{Laid}
-use Rattle.layout.specs.Layout.{limit, IsLayout, laid_of, entries}
+use Rattle.layout.specs.Layout.{Laid, limit, IsLayout, laid_of, entries}
 use Rattle.layout.proofs.Facts.{Facts, facts-of, laid-again, unused-at}
 use Rattle.layout.proofs.Laws.{inks-to, outputs-to, entries_fit}
 use Rattle.flash.specs.File.{word_at, byte_of, sum_to, front, check_of, block_word, block_byte, blocks_for, file_length, contents_of, file_of, table_file}

@@ -9,8 +9,7 @@ use Rattle.lists.specs.Buffer.{written, left}
 use Rattle.lists.proofs.Buffer.{length-written, written_at, unwritten}
 use Rattle.lists.proofs.Lists.{bytes-at}
 use Rattle.layout.specs.declared.MultidimensionalLut.{MultidimensionalLut}
-use Rattle.layout.specs.declared.Laid.{Laid}
-use Rattle.layout.specs.Layout.{refused_by, IsLayout, entries}
+use Rattle.layout.specs.Layout.{Laid, refused_by, IsLayout, entries}
 use Rattle.flash.specs.File.{file_length, blocks_for, table_file}
 use Rattle.flash.specs.Refusals.{layout_in, total_in, read_refusal, lent_refusal, write_refusal}
 use Rattle.flash.specs.Read.{FileLaid, entry_in, TableRead}

@@ -4,8 +4,7 @@ use Rattle.std.specs.Float.{binary32}
 use Rattle.outcome.specs.Outcome.{on_done}
 use Rattle.lists.specs.Lists.{tabulate}
 use Rattle.lists.specs.Buffer.{left}
-use Rattle.layout.specs.declared.Laid.{Laid}
-use Rattle.layout.specs.Layout.{refused_by, IsLayout}
+use Rattle.layout.specs.Layout.{Laid, refused_by, IsLayout}
 use Rattle.flash.specs.File.{word_at}
 use Rattle.flash.specs.Refusals.{layout_in, total_in, head_refusal, read_refusal}
 

@@ -3,9 +3,8 @@ use Rattle.std.specs.Prelude.{ℕ, zero, suc, ◌+◌, ◌-◌, ◌*◌, min, Bo
 use Rattle.outcome.specs.Outcome.{or_else}
 use Rattle.lists.specs.Lists.{tabulate, every}
 use Rattle.lists.specs.Bytes.{first_sixteen}
-use Rattle.layout.specs.declared.Laid.{Laid}
 use Rattle.layout.specs.declared.MultidimensionalLut.{MultidimensionalLut}
-use Rattle.layout.specs.Layout.{laid_of, entries}
+use Rattle.layout.specs.Layout.{Laid, laid_of, entries}
 use Rattle.flash.specs.File.{word_at, check_of, blocks_for, file_length}
 
 -- `count` bytes from a place on are all 0

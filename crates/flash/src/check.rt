@@ -1,109 +1,84 @@
 // What is refused of a file.
 ghost use Rattle.std.specs.Prelude.{◌≡◌, ◌+◌, ◌*◌, ◌≤◌, min, length};
+ghost use Rattle.outcome.specs.Refused.{number_in};
 ghost use Rattle.layout.specs.Layout.{limit};
 ghost use Rattle.flash.specs.File.{blocks_for};
 ghost use Rattle.flash.specs.Refusals.{zeros, block_refusal, head_used, body_used, body_refusal, rest_refusal};
 
 use crate::words;
+use outcome::Refusal;
 
-// Whether `count` bytes from a place on are all 0: their sum is. Without an early exit the compiler adds many at once.
+// Whether `count` bytes from a place on are all 0. Without an early exit the compiler takes many at once.
 fn all_zero(file: &[u8], from: usize, count: usize) -> bool
-    requires { (from + count ≤ length file.now) × (count ≤ 512) }
+    requires { from + count ≤ length file.now }
     ensures { result ≡ zeros file.now from count }
 {
-    let mut sum: usize = 0;
-    let mut i: usize = 0;
-    while i < count {
-        sum += file[from + i] as usize;
-        i += 1;
-    }
-    sum == 0
+    file[from..from + count].iter().fold(0, |any, b| any | *b) == 0
 }
 
-// The block at a place: its check 18, its number 19, its filling from byte `used` on 20.
-pub(crate) fn block_refusal(file: &[u8], at: usize, number: u32, used: usize) -> u32
+// The block at a place: its check, its number, its filling from byte `used` on.
+pub(crate) fn check_block(file: &[u8], at: usize, number: u32, used: usize) -> Result<(), Refusal>
     requires { (at + 512 ≤ length file.now) × (used ≤ 508) }
-    ensures { result ≡ block_refusal file.now at number used }
+    ensures { number_in result ≡ block_refusal file.now at number used }
 {
     if words::sum(file, at) != words::word(file, at + 508) {
-        return 18;
+        return Err(Refusal::BlockCheck);
     }
     if words::word(file, at) != number {
-        return 19;
+        return Err(Refusal::BlockNumber);
     }
     if !all_zero(file, at + used, 508 - used) {
-        return 20;
+        return Err(Refusal::BlockFilling);
     }
-    0
+    Ok(())
 }
 
 // Where the filling of block 0 begins: after the sizes of its n inks.
 pub(crate) fn head_used(n: usize) -> usize
     ensures { (result ≡ head_used n) × (result ≤ 22) }
 {
-    if n < 16 {
-        return 6 + n;
-    }
-    22
+    6 + n.min(16)
 }
 
 // How many blocks hold that many entries.
 pub(crate) fn blocks_for(total: usize) -> usize
-    requires { total ≤ limit }
-    ensures { result ≡ blocks_for total }
+    ensures value { result ≡ blocks_for total }
+    ensures few { 126 * result ≤ total + 125 }
 {
-    (total + 125) / 126
-}
-
-// The entries in a block, where `rest` are left at its start.
-pub(crate) fn at_most_126(rest: usize) -> usize
-    ensures { result ≡ min 126 rest }
-{
-    if rest < 126 {
-        return rest;
-    }
-    126
+    total.div_ceil(126)
 }
 
 // Where the filling of a later block begins, where `rest` entries are left at its start.
 fn body_used(rest: usize) -> usize
     ensures { (result ≡ body_used rest) × (result ≤ 508) }
 {
-    4 + 4 * at_most_126(rest)
+    4 + 4 * rest.min(126)
 }
 
 // The blocks after block 0 in turn.
-fn body_refusal(file: &[u8], total: usize, count: usize) -> u32
-    requires { (512 * (1 + count) ≤ length file.now) × (count ≡ blocks_for total) × (total ≤ limit) }
-    ensures { result ≡ body_refusal file.now total count }
+fn check_body(file: &[u8], total: usize, count: usize) -> Result<(), Refusal>
+    requires { (512 * (1 + count) ≤ length file.now) × (126 * count ≤ total + 125) × (total ≤ limit) }
+    ensures { number_in result ≡ body_refusal file.now total count }
 {
-    let mut k: usize = 0;
-    while k < count {
+    for k in 0..count {
         let used = body_used(total - 126 * k);
-        let refusal = block_refusal(file, 512 * (k + 1), (k + 1) as u32, used);
-        if refusal != 0 {
-            return refusal;
-        }
-        k += 1;
+        check_block(file, 512 * (k + 1), (k + 1) as u32, used)?;
     }
-    0
+    Ok(())
 }
 
-// The whole length 17, the blocks after block 0, and the places of the entry buffer 8.
-pub(crate) fn rest_refusal(file: &[u8], total: usize, room: usize) -> u32
+// The whole length, the blocks after block 0, and the places of the entry buffer.
+pub(crate) fn check_rest(file: &[u8], total: usize, room: usize) -> Result<(), Refusal>
     requires { total ≤ limit }
-    ensures { result ≡ rest_refusal file.now total room }
+    ensures { number_in result ≡ rest_refusal file.now total room }
 {
     let count = blocks_for(total);
     if file.len() != 512 * (1 + count) {
-        return 17;
+        return Err(Refusal::FileLength);
     }
-    let refusal = body_refusal(file, total, count);
-    if refusal != 0 {
-        return refusal;
-    }
+    check_body(file, total, count)?;
     if room < total {
-        return 8;
+        return Err(Refusal::ShortAnswer);
     }
-    0
+    Ok(())
 }

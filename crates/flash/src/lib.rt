@@ -8,13 +8,16 @@ mod words;
 
 ghost use Rattle.std.specs.Prelude.{◌≡◌, ◌≤◌, replicate, slice_index};
 ghost use Rattle.lists.specs.Buffer.{written};
-ghost use Rattle.layout.specs.Layout.{limit};
+ghost use Rattle.outcome.specs.Refused.{number_in};
+ghost use Rattle.layout.specs.Layout.{limit, laid_in};
 ghost use Rattle.flash.specs.File.{file_length};
 ghost use Rattle.flash.specs.Read.{FileLaid, TableRead};
 ghost use Rattle.flash.specs.Written.{TableWritten, FileWritten};
 ghost use Rattle.flash.specs.BySizes.{TableFiled};
 
-use layout::{Laid, MultidimensionalLut};
+use blocks::Head;
+use layout::MultidimensionalLut;
+use outcome::Refusal;
 
 // The bytes of a file of so many entries.
 pub fn file_length(total: u32) -> u64
@@ -23,68 +26,60 @@ pub fn file_length(total: u32) -> u64
     512 * (1 + (check::blocks_for(total as usize) as u64))
 }
 
-// The layout that block 0 asks: checks 17 for fewer than 512 bytes, 18, 19, 20 of block 0, then 1, 2, 3, 5. The other blocks need
-// not be there, and are not looked at. Refused, it answers a record of zeros.
-pub fn file_layout(file: &[u8]) -> Laid
-    ensures { FileLaid file.now result }
+// The layout that block 0 asks. Refusals 17 for fewer than 512 bytes, 18, 19, 20 of block 0, then 1, 2, 3, 5. The other blocks need
+// not be there, and are not looked at.
+pub fn file_layout(file: &[u8]) -> Result<MultidimensionalLut, Refusal>
+    ensures { FileLaid file.now (laid_in result) }
 {
     if file.len() < 512 {
-        return layout::refused(17);
+        return Err(Refusal::FileLength);
     }
     let n = file[4] as usize;
-    let block = check::block_refusal(file, 0, 0, check::head_used(n));
-    if block != 0 {
-        return layout::refused(block);
-    }
+    check::check_block(file, 0, 0, check::head_used(n))?;
     layout::layout(lists::first_16(&file[6..]), n, file[5] as usize)
 }
 
-// Reads a file: checks those of `file_layout`, then 17 for the whole length, then 18, 19, 20 block by block, last 8. Answers the
-// layout, and sets the first total places of `bits`. Refused, it answers a record of zeros and nothing is written.
-pub fn read_table(file: &[u8], bits: &mut [u32]) -> Laid
-    ensures { TableRead file.now bits.old result bits.new }
+// Reads a file: refusals those of `file_layout`, then 17 for the whole length, then 18, 19, 20 block by block, last 8. Answers the
+// layout, and sets the first total places of `bits`. Refused, nothing is written.
+pub fn read_table(file: &[u8], bits: &mut [u32]) -> Result<MultidimensionalLut, Refusal>
+    ensures { TableRead file.now bits.old (laid_in result) bits.new }
 {
-    let laid = file_layout(file);
-    if laid.refusal != 0 {
-        return laid;
-    }
-    let total = layout::entry_count(laid.lut) as usize;
-    let number = check::rest_refusal(file, total, bits.len());
-    if number != 0 {
-        return layout::refused(number);
-    }
+    let lut = file_layout(file)?;
+    let total = layout::entry_count(lut) as usize;
+    check::check_rest(file, total, bits.len())?;
     blocks::copy_all(file, bits, total);
-    laid
+    Ok(lut)
 }
 
-// Writes the file of a layout with so many entries: checks 6 and 8.
-fn write_file(n: u8, m: u8, sizes: [u8; 16], total: usize, bits: &[u32], file: &mut [u8]) -> u32
+// Writes the file of a layout with so many entries: refusals 6 and 8.
+fn write_file(head: &Head, total: usize, bits: &[u32], file: &mut [u8]) -> Result<(), Refusal>
     requires { total ≤ limit }
-    ensures { FileWritten sizes n m total bits.now file.old result file.new }
+    ensures { FileWritten head.now.sizes head.now.n head.now.m total bits.now file.old (number_in result) file.new }
 {
     if bits.len() < total {
-        return 6;
+        return Err(Refusal::ShortTable);
     }
     if (file.len() as u64) < file_length(total as u32) {
-        return 8;
+        return Err(Refusal::ShortAnswer);
     }
-    blocks::put_all(n, m, sizes, &bits[..total], file);
-    0
+    blocks::put_all(head, &bits[..total], file);
+    Ok(())
 }
 
-// Writes the file of a record and its table: checks 9, 6, 8. On 0 the file stands in the first bytes of `file`, and no others are
+// Writes the file of a record and its table: refusals 9, 6, 8. Done, the file stands in the first bytes of `file`, and no others are
 // set; only the first total entries count. Refused, nothing is written.
-pub fn write_table(lut: MultidimensionalLut, bits: &[u32], file: &mut [u8]) -> u32
-    ensures { TableWritten lut bits.now file.old result file.new }
+pub fn write_table(lut: MultidimensionalLut, bits: &[u32], file: &mut [u8]) -> Result<(), Refusal>
+    ensures { TableWritten lut bits.now file.old (number_in result) file.new }
 {
     if !layout::is_layout(lut) {
-        return 9;
+        return Err(Refusal::ForeignRecord);
     }
     let total = layout::entry_count(lut) as usize;
     let n = lut.input_inks as u8;
     let m = lut.output_inks as u8;
     let sizes = lut.grid_sizes;
-    write_file(n, m, sizes, total, bits, file)
+    let head = Head { n, m, sizes };
+    write_file(&head, total, bits, file)
 }
 
 // The sizes of the n inks in use, then zeros.
@@ -93,30 +88,27 @@ fn used_sizes(sizes: &[u8; 16], n: usize) -> [u8; 16]
     ensures { result ≡ written (λ i. slice_index sizes.now i) n (replicate 16 0) }
 {
     let mut used = [0u8; 16];
-    let mut i: usize = 0;
-    while i < n {
-        used[i] = sizes[i];
-        i += 1;
-    }
+    used[..n].copy_from_slice(&sizes[..n]);
     used
 }
 
-// Lays out, then writes the file: checks 1, 2, 3, 5, then 6, 8, without a record.
-pub fn write_by_sizes(sizes: &[u8; 16], n: usize, m: usize, bits: &[u32], file: &mut [u8]) -> u32
-    ensures { TableFiled sizes.now n m bits.now file.old result file.new }
+// Lays out, then writes the file: refusals 1, 2, 3, 5, then 6, 8, without a record.
+pub fn write_by_sizes(
+    sizes: &[u8; 16],
+    n: usize,
+    m: usize,
+    bits: &[u32],
+    file: &mut [u8],
+) -> Result<(), Refusal>
+    ensures { TableFiled sizes.now n m bits.now file.old (number_in result) file.new }
 {
     let mut filling = [1u32; 16];
-    let refusal = layout::filling_sizes(sizes, n, m, &mut filling);
-    if refusal != 0 {
-        return refusal;
-    }
+    layout::filling_sizes(sizes, n, m, &mut filling)?;
     let total = (filling[0] as u64) * (sizes[0] as u64);
-    write_file(
-        n as u8,
-        m as u8,
-        used_sizes(sizes, n),
-        total as usize,
-        bits,
-        file,
-    )
+    let head = Head {
+        n: n as u8,
+        m: m as u8,
+        sizes: used_sizes(sizes, n),
+    };
+    write_file(&head, total as usize, bits, file)
 }

@@ -10,7 +10,7 @@ use borrow.Author.Tests.{not-false, ltb-false, le-ltb}
 use Rattle.lists.specs.Lists.{every}
 use Rattle.layout.specs.Layout.{limit, total, is_count, record_of, refused_by, laid_using}
 use Rattle.layout.specs.declared.MultidimensionalLut.{MultidimensionalLut}
-use Rattle.layout.specs.declared.Laid.{Laid}
+use Rattle.layout.specs.Layout.{Laid}
 
 -- the sizes in use and the counts pass every test
 pub record Accepted (used : List ℕ) (n m : ℕ) : Type 0 where

@@ -13,7 +13,7 @@ use Rattle.lists.specs.Lists.{every, last_first}
 use Rattle.lists.proofs.Lists.{last-first-same}
 use Rattle.layout.specs.Layout.{limit, total, is_count, laid_using, laid_of, record_of, refused_by, IsLayout, ink_sizes}
 use Rattle.layout.specs.declared.MultidimensionalLut.{MultidimensionalLut}
-use Rattle.layout.specs.declared.Laid.{Laid}
+use Rattle.layout.specs.Layout.{Laid}
 use Rattle.layout.proofs.Parts.{count-to, places-used, sizes-back}
 use Rattle.layout.proofs.Accepted.{Accepted, done, accepted-of}
 use Rattle.layout.proofs.Facts.{used_sizes}

@@ -16,13 +16,10 @@ use Rattle.binary32.specs.Numbers.{plus_zero, of_whole}
 use Rattle.lists.proofs.Lists.{first-every, bytes-at, length-tabulate, tabulate-bytes}
 use Rattle.layout.specs.Layout.{limit, total, is_count, stride, place, record_of, laid_of, IsLayout}
 use Rattle.layout.specs.Places.{UsedAt, UnusedAt}
+pub use Rattle.layout.specs.Places.{used_sizes}
 use Rattle.layout.specs.declared.MultidimensionalLut.{MultidimensionalLut}
 use Rattle.layout.proofs.Parts.{count-to, places-used, places-unused, places-are, above_at, sizes-back}
 use Rattle.layout.proofs.Accepted.{Accepted, done, accepted-of, laid-accepted}
-
--- a record's sizes in use, first ink first
-abbrev pub used_sizes : MultidimensionalLut → List ℕ
-used_sizes lut = take lut.input_inks lut.grid_sizes
 
 -- its sizes are sixteen bytes, they and its counts are accepted, and it is the record of them
 pub record Facts (lut : MultidimensionalLut) : Type 0 where
@@ -78,12 +75,6 @@ layout_of lut facts =
 -- ---- the places of such a record
 
 module _ (lut : MultidimensionalLut) where
-  abbrev pub Used : ℕ → Type 0
-  Used i = UsedAt lut.grid_strides lut.grid_filling_size lut.grid_scale lut.grid_sizes lut.input_inks lut.output_inks i
-
-  abbrev pub Unused : ℕ → Type 0
-  Unused i = UnusedAt lut.grid_strides lut.grid_filling_size lut.grid_scale lut.grid_sizes i
-
   abbrev fillings : ℕ → ℕ
   fillings i = lut.output_inks * stride (used_sizes lut) i
 
@@ -104,7 +95,7 @@ module _ (lut : MultidimensionalLut) where
     few : lut.input_inks ≤ 16
     few = omega (arith, count-to _ facts.accepted.n-counts)
 
-    pub used-at : (i : ℕ) → i < lut.input_inks → Used i
+    pub used-at : (i : ℕ) → i < lut.input_inks → UsedAt lut i
     unfolding record_of
     used-at i h =
         let n = lut.input_inks in
@@ -115,7 +106,7 @@ module _ (lut : MultidimensionalLut) where
           scale-is = ap (λ (l : MultidimensionalLut). get_or l.grid_scale i nan) facts.made ∙ places-used n scales plus_zero i nan few h ∙ scale-is i h;
         }
 
-    pub unused-at : (i : ℕ) → i < 16 → lut.input_inks ≤ i → Unused i
+    pub unused-at : (i : ℕ) → i < 16 → lut.input_inks ≤ i → UnusedAt lut i
     unfolding record_of
     unused-at i h past =
         let n = lut.input_inks in
@@ -136,7 +127,7 @@ module _ (lut : MultidimensionalLut) where
 
   -- and a record with those places, with its counts accepted and its total within the limit, is such a record
   pub facts-are : Arrays → is_count lut.input_inks ≡ true → is_count lut.output_inks ≡ true → total (used_sizes lut) lut.output_inks ≤ limit
-      → ((i : ℕ) → i < lut.input_inks → Used i) → ((i : ℕ) → i < 16 → lut.input_inks ≤ i → Unused i)
+      → ((i : ℕ) → i < lut.input_inks → UsedAt lut i) → ((i : ℕ) → i < 16 → lut.input_inks ≤ i → UnusedAt lut i)
       → Facts lut
   unfolding record_of
   facts-are arrays n-counts m-counts within used unused =

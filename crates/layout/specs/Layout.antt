@@ -1,12 +1,13 @@
 -- Document 01, "Sizes, strides and the layout record" and its refusals 1, 2, 3 and 5, with a size for each ink (document 02, E5). Refusal 4 is given no more.
 -- Assumes nothing.
-use Rattle.std.specs.Prelude.{ℕ, suc, ◌-◌, ◌*◌, ◌≡◌, Bool, cond, not, ◌&&◌, List, leb, ltb, T, length, get_or, take, drop, replicate}
+use Rattle.std.specs.Prelude.{ℕ, suc, Result, Ok, Err, ◌-◌, ◌*◌, ◌≡◌, Bool, cond, not, ◌&&◌, List, leb, ltb, T, length, get_or, take, drop, replicate}
 use Rattle.std.proofs.Math.Pow.{are_bytes}
 use Rattle.outcome.specs.Outcome.{on_done}
+use Rattle.outcome.specs.declared.Refusal.{Refusal}
+use Rattle.outcome.specs.Refused.{number_of}
 use Rattle.binary32.specs.Numbers.{plus_zero, of_whole}
 use Rattle.lists.specs.Lists.{tabulate, every, last_first, product}
 use Rattle.layout.specs.declared.MultidimensionalLut.{MultidimensionalLut}
-use Rattle.layout.specs.declared.Laid.{Laid}
 
 -- the largest total that is accepted
 abbrev pub limit : ℕ
@@ -43,21 +44,31 @@ record_of used n m =
       output_inks = m;
     }
 
+-- a record of zeros
+unfoldable pub zeros : MultidimensionalLut
+zeros =
+    record {
+      grid_strides = replicate 16 0;
+      grid_filling_size = replicate 16 0;
+      grid_scale = replicate 16 plus_zero;
+      grid_sizes = replicate 16 0;
+      input_inks = 0;
+      output_inks = 0;
+    }
+
+-- a layout's number, and its record
+pub record Laid : Type 0 where
+  pub refusal : ℕ
+  pub lut : MultidimensionalLut
+
 -- a refusal has a record of zeros
 unfoldable pub refused_by : ℕ → Laid
-refused_by number =
-    record {
-      refusal = number;
-      lut =
-          record {
-            grid_strides = replicate 16 0;
-            grid_filling_size = replicate 16 0;
-            grid_scale = replicate 16 plus_zero;
-            grid_sizes = replicate 16 0;
-            input_inks = 0;
-            output_inks = 0;
-          };
-    }
+refused_by number = record { refusal = number; lut = zeros }
+
+-- what an answer says: the record, or a refusal
+abbrev pub laid_in : Result MultidimensionalLut Refusal → Laid
+laid_in (Ok lut) = record { refusal = 0; lut = lut }
+laid_in (Err refusal) = refused_by (number_of refusal)
 
 -- the refusals in their order, of the n sizes in use
 unfoldable pub laid_using : List ℕ → ℕ → ℕ → Laid

@@ -6,10 +6,13 @@ mod sizes;
 
 ghost use Rattle.std.specs.Prelude.{◌≡◌, ◌-◌, ◌*◌, take, get_or};
 ghost use Rattle.outcome.specs.Outcome.{Decides};
+ghost use Rattle.outcome.specs.Refused.{number_in};
 ghost use Rattle.binary32.specs.Numbers.{plus_zero, of_whole};
-ghost use Rattle.layout.specs.Layout.{is_count, stride, places, refused_by, laid_of, IsLayout, LaidBy, FillingOf};
+ghost use Rattle.layout.specs.Layout.{is_count, stride, places, zeros, laid_in, laid_of, IsLayout, LaidBy, FillingOf};
 ghost use Rattle.layout.specs.Lengths.{length_refusal};
 ghost use Rattle.layout.specs.Tested.{Tested, Fills};
+
+use outcome::Refusal;
 
 // The record of a layout. The strides count nodes, the filling sizes count table entries; unused sizes are 0.
 #[derive(Clone, Copy)]
@@ -22,11 +25,20 @@ pub struct MultidimensionalLut {
     pub output_inks: usize,
 }
 
-// What a layout answers: 0 and the record, or a refusal and a record of zeros.
-#[derive(Clone, Copy)]
-pub struct Laid {
-    pub refusal: u32,
-    pub lut: MultidimensionalLut,
+// A record of zeros, which no accepted layout gives.
+impl Default for MultidimensionalLut {
+    ghost is_default = { λ lut. lut ≡ zeros };
+
+    fn default() -> MultidimensionalLut {
+        MultidimensionalLut {
+            grid_strides: [0; 16],
+            grid_filling_size: [0; 16],
+            grid_scale: [0.0; 16],
+            grid_sizes: [0; 16],
+            input_inks: 0,
+            output_inks: 0,
+        }
+    }
 }
 
 // The number of a node in ICC.1's order.
@@ -48,72 +60,48 @@ pub fn entry_offset(node: NodeNumber, m: u32) -> EntryOffset
 pub fn entry_count(lut: MultidimensionalLut) -> u64
     ensures { result ≡ get_or lut.grid_filling_size 0 0 * get_or lut.grid_sizes 0 0 }
 {
-    let per_line = lut.grid_filling_size;
-    let lines = lut.grid_sizes;
-    (per_line[0] as u64) * (lines[0] as u64)
+    (lut.grid_filling_size[0] as u64) * (lut.grid_sizes[0] as u64)
 }
 
-// 6 a table shorter than the total, 7 not as many inputs or coordinates as inks: the first that applies, and 0 where
-// none does.
-pub fn length_refusal(total: u64, n: usize, table: usize, given: usize) -> u32
-    ensures { result ≡ length_refusal total n table given 0 }
+// A table shorter than the total is refused, and then not as many inputs or coordinates as inks.
+pub fn check_lengths(total: u64, n: usize, table: usize, given: usize) -> Result<(), Refusal>
+    ensures { number_in result ≡ length_refusal total n table given 0 }
 {
     if (table as u64) < total {
-        return 6;
+        return Err(Refusal::ShortTable);
     }
     if given != n {
-        return 7;
+        return Err(Refusal::InputCount);
     }
-    0
-}
-
-// A refusal has a record of zeros.
-pub fn refused(number: u32) -> Laid
-    ensures { result ≡ refused_by number }
-{
-    let lut = MultidimensionalLut {
-        grid_strides: [0u32; 16],
-        grid_filling_size: [0u32; 16],
-        grid_scale: [0.0f32; 16],
-        grid_sizes: [0u8; 16],
-        input_inks: 0,
-        output_inks: 0,
-    };
-    Laid {
-        refusal: number,
-        lut,
-    }
+    Ok(())
 }
 
 // A count of inks is 1 to 15.
+#[tactic(auto, unfolding(crate::specs::Layout::is_count))]
 fn is_count(n: usize) -> bool
     ensures { result ≡ is_count n }
 {
-    if n < 1 {
-        return false;
-    }
-    n <= 15
+    1 <= n && n <= 15
 }
 
-// The layout's number: the first refusal that applies, else 0.
-fn refusal_of(sizes: &[u8; 16], n: usize, m: usize) -> u32
-    ensures { Tested sizes.now n m result }
+// What a layout refuses: the first that applies.
+fn check(sizes: [u8; 16], n: usize, m: usize) -> Result<(), Refusal>
+    ensures { Tested sizes n m (number_in result) }
 {
-    sizes::sixteen(*sizes);
     if !is_count(n) {
-        return 1;
+        return Err(Refusal::InputInks);
     }
     if !is_count(m) {
-        return 2;
+        return Err(Refusal::OutputInks);
     }
-    let total = sizes::capped(sizes, n, m as u64);
+    let total = sizes::capped(&sizes[..n], m as u64);
     if total == 0 {
-        return 3;
+        return Err(Refusal::ZeroSize);
     }
     if sizes::LIMIT < total {
-        return 5;
+        return Err(Refusal::LargeTotal);
     }
-    0
+    Ok(())
 }
 
 // A row of the record. The last ink's place holds `first`, and each place before it what stands at the next, times the next ink's size.
@@ -123,11 +111,9 @@ fn fill(row: &mut [u32; 16], first: u32, sizes: &[u8; 16], n: usize)
 {
     *row = [1u32; 16];
     let mut value = first;
-    let mut i = n;
-    while 0 < i {
-        i -= 1;
+    for i in (0..n).rev() {
         row[i] = value;
-        value = value * (sizes[i] as u32);
+        value *= sizes[i] as u32;
     }
 }
 
@@ -138,9 +124,7 @@ fn fill_own(scale: &mut [f32; 16], own: &mut [u8; 16], sizes: &[u8; 16], n: usiz
 {
     *scale = [0.0f32; 16];
     *own = [0u8; 16];
-    let mut ink = n;
-    while 0 < ink {
-        ink -= 1;
+    for ink in (0..n).rev() {
         let size = sizes[ink];
         scale[ink] = (size - 1) as f32;
         own[ink] = size;
@@ -170,47 +154,33 @@ fn record_of(sizes: &[u8; 16], n: usize, m: usize) -> MultidimensionalLut
 }
 
 // The layout of the first n of sixteen grid sizes, with n input and m output inks.
-pub fn layout(sizes: [u8; 16], n: usize, m: usize) -> Laid
-    ensures { LaidBy sizes n m result }
+pub fn layout(sizes: [u8; 16], n: usize, m: usize) -> Result<MultidimensionalLut, Refusal>
+    ensures { LaidBy sizes n m (laid_in result) }
 {
-    let refusal = refusal_of(&sizes, n, m);
-    if refusal != 0 {
-        return refused(refusal);
-    }
-    let lut = record_of(&sizes, n, m);
-    Laid { refusal: 0, lut }
+    check(sizes, n, m)?;
+    Ok(record_of(&sizes, n, m))
 }
 
-// The filling sizes of a layout without its record. On 0 `filling` is the record's row, on a refusal nothing is written.
-pub fn filling_sizes(sizes: &[u8; 16], n: usize, m: usize, filling: &mut [u32; 16]) -> u32
-    ensures { FillingOf sizes.now n m filling.old result filling.new }
+// The filling sizes of a layout without its record: where it is accepted `filling` is the record's row, refused nothing is written.
+pub fn filling_sizes(
+    sizes: &[u8; 16],
+    n: usize,
+    m: usize,
+    filling: &mut [u32; 16],
+) -> Result<(), Refusal>
+    ensures { FillingOf sizes.now n m filling.old (number_in result) filling.new }
 {
-    let refusal = refusal_of(sizes, n, m);
-    if refusal != 0 {
-        return refusal;
-    }
+    check(*sizes, n, m)?;
     fill(filling, m as u32, sizes, n);
-    0
+    Ok(())
 }
 
 // Whether the record is bit for bit one that an accepted layout gives (refusal 9's test).
 pub fn is_layout(lut: MultidimensionalLut) -> bool
     ensures { Decides result (IsLayout lut) }
 {
-    let n = lut.input_inks;
-    let m = lut.output_inks;
-    if !is_count(n) {
+    if !is_count(lut.input_inks) || !is_count(lut.output_inks) {
         return false;
     }
-    if !is_count(m) {
-        return false;
-    }
-    let strides = lut.grid_strides;
-    let filling = lut.grid_filling_size;
-    let scale = lut.grid_scale;
-    let sizes = lut.grid_sizes;
-    if !places::used(strides, filling, scale, sizes, n, m) {
-        return false;
-    }
-    places::unused(strides, filling, scale, sizes, n)
+    places::used(&lut) && places::unused(&lut)
 }

@@ -3,54 +3,42 @@ ghost use Rattle.std.specs.Prelude.{◌≡◌, true, ℕ, ◌≤◌, ◌<◌, ta
 ghost use Rattle.std.specs.Float.{nan};
 ghost use Rattle.outcome.specs.Outcome.{Decides};
 ghost use Rattle.layout.specs.Layout.{limit, total};
-ghost use Rattle.layout.specs.Places.{UsedAt, UnusedAt};
+ghost use Rattle.layout.specs.Places.{used_sizes, UsedAt, UnusedAt};
 
+use crate::MultidimensionalLut;
 use crate::sizes::LIMIT;
 
 // Bit for bit, where no NaN is equal to anything.
 fn same_bits(a: f32, b: f32) -> bool
     ensures { (result ≡ true → a ≡ b) × (a ≡ b → (b ≡ nan → ⊥) → result ≡ true) }
 {
-    if a != a {
-        return false;
-    }
-    if b != b {
+    if a.is_nan() || b.is_nan() {
         return false;
     }
     f32::to_bits(a) == f32::to_bits(b)
 }
 
-// Whether the places of the n inks hold what their sizes and m give, no size is 0, and the total is within the limit.
+// Whether the places of the record's inks hold what their sizes and m give, no size is 0, and the total is within the limit.
 // Each stride is that of the next ink times the next ink's size, from the last ink down.
-pub(crate) fn used(
-    strides: [u32; 16],
-    filling: [u32; 16],
-    scale: [f32; 16],
-    sizes: [u8; 16],
-    n: usize,
-    m: usize,
-) -> bool
-    requires { (n ≤ 16) × (m ≤ 15) }
-    ensures { Decides result (((i : ℕ) → i < n → UsedAt strides filling scale sizes n m i) × (total (take n sizes) m ≤ limit)) }
+pub(crate) fn used(lut: &MultidimensionalLut) -> bool
+    requires { (lut.now.input_inks ≤ 16) × (lut.now.output_inks ≤ 15) }
+    ensures { Decides result (((i : ℕ) → i < lut.now.input_inks → UsedAt lut.now i) × (total (used_sizes lut.now) lut.now.output_inks ≤ limit)) }
 {
-    let outputs = m as u64;
+    let outputs = lut.output_inks as u64;
     let mut stride: u64 = 1;
-    let mut i = n;
-    while 0 < i {
-        i -= 1;
-        let size = sizes[i];
+    for i in (0..lut.input_inks).rev() {
+        let size = lut.grid_sizes[i];
         if size == 0 {
             return false;
         }
-        let stored = strides[i] as u64;
+        let stored = lut.grid_strides[i] as u64;
         if stored != stride {
             return false;
         }
-        if filling[i] as u64 != outputs * stored {
+        if lut.grid_filling_size[i] as u64 != outputs * stored {
             return false;
         }
-        let x = scale[i];
-        if !same_bits(x, (size - 1) as f32) {
+        if !same_bits(lut.grid_scale[i], (size - 1) as f32) {
             return false;
         }
         stride = stored * (size as u64);
@@ -58,33 +46,24 @@ pub(crate) fn used(
     stride * outputs <= LIMIT
 }
 
-// Whether the places from n on hold 1, 1, +0.0 and the size 0.
-pub(crate) fn unused(
-    strides: [u32; 16],
-    filling: [u32; 16],
-    scale: [f32; 16],
-    sizes: [u8; 16],
-    n: usize,
-) -> bool
-    requires { n ≤ 16 }
-    ensures { Decides result ((i : ℕ) → i < 16 → n ≤ i → UnusedAt strides filling scale sizes i) }
+// Whether the places after those of the record's inks hold 1, 1, +0.0 and the size 0.
+pub(crate) fn unused(lut: &MultidimensionalLut) -> bool
+    requires { lut.now.input_inks ≤ 16 }
+    ensures { Decides result ((i : ℕ) → i < 16 → lut.now.input_inks ≤ i → UnusedAt lut.now i) }
 {
-    let mut i = n;
-    while i < 16 {
-        if strides[i] != 1 {
+    for i in lut.input_inks..16 {
+        if lut.grid_strides[i] != 1 {
             return false;
         }
-        if filling[i] != 1 {
+        if lut.grid_filling_size[i] != 1 {
             return false;
         }
-        let x = scale[i];
-        if !same_bits(x, 0.0) {
+        if !same_bits(lut.grid_scale[i], 0.0) {
             return false;
         }
-        if sizes[i] != 0 {
+        if lut.grid_sizes[i] != 0 {
             return false;
         }
-        i += 1;
     }
     true
 }

@@ -1,4 +1,5 @@
 pub mod Lists
 pub mod Buffer
 pub mod Bytes
+pub mod Calls
 pub mod Unique

@@ -4,25 +4,18 @@
 ghost use Rattle.std.specs.Prelude.{◌≡◌, get_or};
 ghost use Rattle.lists.specs.Bytes.{first_sixteen};
 
+use std::array;
+
 // The byte at a place, 0 where it is missing.
 pub fn byte_at(bytes: &[u8], place: usize) -> u8
     ensures { result ≡ get_or bytes.now place 0 }
 {
-    if bytes.len() <= place {
-        return 0;
-    }
-    bytes[place]
+    bytes.get(place).copied().unwrap_or(0)
 }
 
 // The first sixteen bytes, 0 where one is missing.
 pub fn first_16(bytes: &[u8]) -> [u8; 16]
     ensures { result ≡ first_sixteen bytes.now }
 {
-    let mut first = [0u8; 16];
-    let mut i: usize = 0;
-    while i < 16 {
-        first[i] = byte_at(bytes, i);
-        i += 1;
-    }
-    first
+    array::from_fn(|i| byte_at(bytes, i))
 }

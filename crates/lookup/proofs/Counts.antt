@@ -1,5 +1,5 @@
--- The count of reads in closed form: 2 for one ink, 4 for two, and for three and more 6, doubled by each ink from the fourth on that is not skipped.
--- Assumes nothing.
+-- The count of reads in closed form: 2 for one ink, 4 for two, and for three and more 6, doubled by each ink from the fourth on that is
+-- not skipped. Assumes nothing.
 use Prim.Native.Nat.{ℕ, zero, suc, ◌+◌, ◌-◌, ◌*◌, ◌^◌, ◌≤◌}
 use native.Mathlib.Omega.{arith}
 use native.Mathlib.Nat.{pow-suc}
@@ -30,9 +30,13 @@ module _ (skip : Float → Bool) where
   double p = omega arith
 
   -- one ink more: skipped, or not
-  more : (ws : List Float) (n : ℕ) (b : Bool) → n ≡ 6 * 2 ^ active skip ws → cond b n (n + n) ≡ 6 * 2 ^ cond b (active skip ws) (suc (active skip ws))
+  more : (ws : List Float) (n : ℕ) (b : Bool) → n ≡ 6 * 2 ^ active skip ws
+      → cond b n (n + n) ≡ 6 * 2 ^ cond b (active skip ws) (suc (active skip ws))
   more ws n true is = is
-  more ws n false is = ap₂ (λ (a b : ℕ). a + b) is is ∙ double (2 ^ active skip ws) ∙ ap (λ (p : ℕ). 6 * p) (sym (pow-suc 2 (active skip ws)))
+  more ws n false is =
+      ap₂ (λ (a b : ℕ). a + b) is is
+      ∙ double (2 ^ active skip ws)
+      ∙ ap (λ (p : ℕ). 6 * p) (sym (pow-suc 2 (active skip ws)))
 
   reads-by : (k : ℕ) (ws : List Float) → length ws ≡ suc (suc (suc k)) → reads skip ws ≡ 6 * 2 ^ active skip (take k ws)
   unfolding reads

@@ -25,7 +25,8 @@ ordered m (g ∷ gs) [] = sym (zero-mul m)
 ordered m (g ∷ gs) (k ∷ ks) = ap (λ (r : ℕ). k * m + r) (ordered (m * g) gs ks) ∙ regroup k m g (index gs ks)
 
 -- a lookup whose cells have distances for their nodes
-lookup-scaled : (skip : Float → Bool) (ss : List ℕ) (cs : List Cell) → length ss ≡ length cs → (f : Grid) → lookup_with skip f (scaled ss cs) ≡ lookup_with skip (λ ks. f (distances ss ks)) cs
+lookup-scaled : (skip : Float → Bool) (ss : List ℕ) (cs : List Cell) → length ss ≡ length cs → (f : Grid)
+    → lookup_with skip f (scaled ss cs) ≡ lookup_with skip (λ ks. f (distances ss ks)) cs
 unfolding lookup_with
 lookup-scaled skip [] [] h f = refl
 lookup-scaled skip [] (c ∷ cs) h f = absurd (omega arith)
@@ -50,7 +51,8 @@ as_many m [] xs = refl
 as_many m (g ∷ gs) xs = ap suc (as_many (m * g) gs xs)
 
 -- cells that are held as distances give the answers of the table
-pub answers-law : (skip : Float → Bool) (gs : List ℕ) (m : ℕ) (table xs : List Float) (o : ℕ) → answer_by skip table (scaled (strides m gs) (cells gs xs)) o ≡ answer_in skip gs m table xs o
+pub answers-law : (skip : Float → Bool) (gs : List ℕ) (m : ℕ) (table xs : List Float) (o : ℕ)
+    → answer_by skip table (scaled (strides m gs) (cells gs xs)) o ≡ answer_in skip gs m table xs o
 answers-law skip gs m table xs o =
     lookup-scaled skip (strides m gs) (cells gs xs) (as_many m gs xs) (within table o)
     ∙ ap (λ (f : Grid). lookup_with skip f (cells gs xs)) (fun_ext (λ ks. ap (λ (n : ℕ). get_or table (n + o) nan) (ordered m gs ks)))

@@ -17,4 +17,5 @@ from-length part a = ap length (from-drop part a) ∙ length-drop a part
 
 -- a node that stands a entries further
 pub drop-within : (part : List Float) (a o : ℕ) → within (drop a part) o ≡ (λ ks. within part o (a ∷ ks))
-drop-within part a o = fun_ext (λ ks. get_or-drop a part (sum ks + o) nan ∙ ap (λ (n : ℕ). get_or part n nan) (sym (add_assoc a (sum ks) o)))
+drop-within part a o =
+    fun_ext (λ ks. get_or-drop a part (sum ks + o) nan ∙ ap (λ (n : ℕ). get_or part n nan) (sym (add_assoc a (sum ks) o)))

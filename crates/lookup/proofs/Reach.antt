@@ -35,5 +35,6 @@ reach-total (g ∷ gs) xs m some bytes =
     let on = ink-on-grid (get_or xs (length gs) nan) g (ltb-true g 256 (every-head (λ k. ltb k 256) g gs bytes)) (length gs) in
     let pos : 0 < g = ltb-true 0 g (every-head (ltb 0) g gs some) in
     let c = ink_cell (length gs) g (get_or xs (length gs) nan) in
-    one_more c.x c.x_n g m (product gs) (reach (scaled (strides (m * g) gs) (cells gs xs))) (omega (arith, on.lower)) (omega (arith, on.upper))
+    one_more c.x c.x_n g m (product gs) (reach (scaled (strides (m * g) gs) (cells gs xs)))
+    (omega (arith, on.lower)) (omega (arith, on.upper))
     (reach-total gs xs (m * g) (every_rest (ltb 0) g gs some) (every_rest (λ k. ltb k 256) g gs bytes))

@@ -7,6 +7,7 @@ use lib.Ieee.{Float}
 use lib.ListN.{length}
 use Rattle.outcome.specs.Outcome.{OneOutcome, on_done}
 use Rattle.outcome.proofs.Decided.{decided}
+use Rattle.outcome.proofs.Numbers.{same_done}
 use Rattle.lists.specs.Buffer.{left}
 use Rattle.layout.specs.declared.MultidimensionalLut.{MultidimensionalLut}
 use Rattle.lookup.specs.Table.{answer_with, refusal, LookedWith}
@@ -37,12 +38,13 @@ one-count reads number p q = p ∙ ap (λ (k : ℕ). on_done k reads 0) number �
 
 pub lookup-unique : OneOutcome 3 lookup-kinds.ps lookup-kinds.r lookup-reads.Post
 lookup-unique κs a x y ws vs p q =
-    (one_number _ _ _ _ _ _ x y _ _ p q, ap (λ (l : List Float). (tt, (tt, (tt, (l, tt))))) (one-buffer _ _ _ _ _ x y _ _ p q))
+    let entries = one-buffer _ _ _ _ _ _ _ _ _ p q in
+    (same_done x y (one_number _ _ _ _ _ _ _ _ _ _ p q), λ i. (tt, (tt, (tt, (entries i, tt)))))
 
 pub lookup-by-sizes-unique : OneOutcome 4 lookup-by-sizes-kinds.ps lookup-by-sizes-kinds.r lookup-by-sizes-reads.Post
 lookup-by-sizes-unique κs a x y ws vs p q =
     let entries = p.entries ∙ sym q.entries in
-    (p.number ∙ sym q.number, λ i. (tt, (tt, (tt, (tt, (tt, (entries i, tt)))))))
+    (same_done x y (p.number ∙ sym q.number), λ i. (tt, (tt, (tt, (tt, (tt, (entries i, tt)))))))
 
 -- no `requires`
 pub lookup-asks-nothing : (κs : _) (a : _) → lookup-reads.Pre κs a

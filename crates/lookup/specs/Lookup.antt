@@ -1,5 +1,5 @@
--- What a lookup means, over a grid function: f takes a node's coordinates, LAST INK FIRST, to the entry stored there. The cells come last ink first too.
--- Definitions only.
+-- What a lookup means, over a grid function: f takes a node's coordinates, LAST INK FIRST, to the entry stored there. The cells come last
+-- ink first too. Definitions only.
 use Rattle.std.specs.Prelude.{ℕ, Bool, false, cond, List, [], ◌∷◌, Float}
 use Rattle.std.specs.Float.Ieee.{eq}
 use Rattle.binary32.specs.Numbers.{plus_zero}

@@ -1,5 +1,5 @@
--- Where the code finds its entries, for the contracts of private functions alone: no public statement rests on this file. A cell is held by the distances, in
--- entries, from a table part's start to its lower and its upper node. Definitions only.
+-- Where the code finds its entries, for the contracts of private functions alone: no public statement rests on this file. A cell is held
+-- by the distances, in entries, from a table part's start to its lower and its upper node. Definitions only.
 use Rattle.std.specs.Prelude.{ℕ, zero, suc, ◌+◌, ◌*◌, ◌≤◌, ◌<◌, max, ◌≡◌, Bool, false, cond, List, [], ◌∷◌, ltb, Float, length, get_or}
 use Rattle.std.specs.Float.{nan}
 use Rattle.std.specs.Float.Ieee.{is_nan}
@@ -20,15 +20,6 @@ sum (k ∷ ks) = k + sum ks
 -- output o of the node that the distances lead to, in a part of the table
 abbrev pub within : List Float → ℕ → Grid
 within part o ks = get_or part (sum ks + o) nan
-
--- ink i, counted from 0, of the lists of lower distances, upper distances and weights
-abbrev pub cell_at : List ℕ → List ℕ → List Float → ℕ → Cell
-cell_at low high w i = record { x = get_or low i 0; x_n = get_or high i 0; w = get_or w i nan }
-
--- the first n inks, last ink first
-abbrev pub cells_at : List ℕ → List ℕ → List Float → ℕ → List Cell
-cells_at low high w zero = []
-cells_at low high w (suc n) = cell_at low high w n ∷ cells_at low high w n
 
 -- no distance that cells lead to is larger
 abbrev pub reach : List Cell → ℕ

@@ -1,4 +1,5 @@
--- A lookup in a table: the cells of the inputs, the answer at each output, what is refused, and what a call leaves in the answer buffer. Definitions only.
+-- A lookup in a table: the cells of the inputs, the answer at each output, what is refused, and what a call leaves in the answer buffer.
+-- Definitions only.
 use Rattle.std.specs.Prelude.{ℕ, ◌+◌, ◌*◌, ◌≡◌, Bool, true, cond, not, List, [], ◌∷◌, ltb, eqb, Float, length, get_or}
 use Rattle.std.specs.Float.{nan}
 use Rattle.std.specs.Float.Ieee.{is_nan}
@@ -32,7 +33,8 @@ answer_at lut table xs o = answer_with never lut table xs o
 abbrev pub nan_refusal : List Float → ℕ
 nan_refusal inputs = cond (some is_nan inputs) 16 0
 
--- 9 not a layout's record, 6 a short table, 7 the number of inputs, 8 a short answer buffer, 16 a NaN input: the first that applies, and 0 where none does
+-- 9 not a layout's record, 6 a short table, 7 the number of inputs, 8 a short answer buffer, 16 a NaN input: the first that applies, and
+-- 0 where none does
 unfoldable pub refusal : Bool → MultidimensionalLut → ℕ → List Float → ℕ → ℕ
 refusal laid lut table inputs room =
     cond (not laid) 9

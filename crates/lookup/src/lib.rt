@@ -4,61 +4,65 @@
 mod place;
 mod value;
 
-ghost use Rattle.std.specs.Prelude.{◌≡◌, ◌*◌, ◌≤◌, length};
-ghost use Rattle.lists.specs.Lists.{last_first, product};
-ghost use Rattle.lookup.specs.Places.{Promised, SettledIn};
-ghost use Rattle.lookup.specs.Table.{Looked, LookedBySizes};
+ghost use Rattle.std.specs.Prelude.{◌≡◌, ◌≤◌, length};
+ghost use Rattle.outcome.specs.Refused.{number_in};
+ghost use Rattle.lists.specs.Buffer.{left};
+ghost use Rattle.layout.specs.Layout.{IsLayout, entries};
+ghost use Rattle.lookup.specs.Table.{answer_at, nan_refusal, Looked, LookedBySizes};
 
+use cell::Cell;
 use layout::MultidimensionalLut;
+use outcome::Refusal;
 
-// The m answers, in a grid whose sizes and filling sizes are lent, or 16 for a NaN input: no answer is written before
-// every input has its cell.
+// The m answers; a NaN input is refused. No answer is written before every input has its cell.
 fn write(
-    filling: &[u32; 16],
-    sizes: &[u8; 16],
-    m: usize,
+    lut: &MultidimensionalLut,
     table: &[f32],
     inputs: &[f32],
     answer: &mut [f32],
-) -> u32
-    requires promised { Promised filling.now sizes.now (length inputs.now) m }
-    requires m_in_bounds { product (last_first (length inputs.now) sizes.now) * m ≤ length table.now }
-    requires room { m ≤ length answer.old }
-    ensures { SettledIn sizes.now m table.now inputs.now answer.old result answer.new }
+) -> Result<(), Refusal>
+    requires layout { IsLayout lut.now }
+    requires as_many { length inputs.now ≡ lut.now.input_inks }
+    requires few { length inputs.now ≤ 16 }
+    requires enough { entries lut.now ≤ length table.now }
+    requires room { lut.now.output_inks ≤ length answer.old }
+    ensures number { number_in result ≡ nan_refusal inputs.now }
+    ensures entries { answer.new
+        ≡ left (number_in result) (answer_at lut.now table.now inputs.now) lut.now.output_inks answer.old }
 {
-    let mut low = [0usize; 16];
-    let mut high = [0usize; 16];
-    let mut w = [0.0f32; 16];
-    let refused = place::place(filling, sizes, inputs, &mut low, &mut high, &mut w);
-    if refused != 0 {
-        return refused;
-    }
-    value::each(table, &low, &high, &w, inputs.len(), m, answer);
-    0
+    let mut cells = [Cell {
+        x: 0,
+        x_n: 0,
+        w: 0.0,
+    }; 16];
+    let inks = &mut cells[..inputs.len()];
+    place::place(lut, inputs, inks)?;
+    value::each(table, inks, lut.output_inks, answer);
+    Ok(())
 }
 
-// The lookup: its number, and on 0 the m answers in the first entries of `answer`.
-pub fn lookup(lut: MultidimensionalLut, table: &[f32], inputs: &[f32], answer: &mut [f32]) -> u32
-    ensures { Looked lut table.now inputs.now answer.old result answer.new }
+// The lookup: the m answers, in the first entries of `answer`.
+pub fn lookup(
+    lut: MultidimensionalLut,
+    table: &[f32],
+    inputs: &[f32],
+    answer: &mut [f32],
+) -> Result<(), Refusal>
+    ensures { Looked lut table.now inputs.now answer.old (number_in result) answer.new }
 {
     if !layout::is_layout(lut) {
-        return 9;
+        return Err(Refusal::ForeignRecord);
     }
     let n = lut.input_inks;
     let m = lut.output_inks;
-    let refusal = layout::length_refusal(layout::entry_count(lut), n, table.len(), inputs.len());
-    if refusal != 0 {
-        return refusal;
-    }
+    layout::check_lengths(layout::entry_count(lut), n, table.len(), inputs.len())?;
     if answer.len() < m {
-        return 8;
+        return Err(Refusal::ShortAnswer);
     }
-    let filling = lut.grid_filling_size;
-    let sizes = lut.grid_sizes;
-    write(&filling, &sizes, m, table, inputs, answer)
+    write(&lut, table, inputs, answer)
 }
 
-// Lays out, then looks up by the record: 1, 2, 3, 5, then 6, 7, 8, 16.
+// Lays out, then looks up by the record.
 pub fn lookup_by_sizes(
     sizes: &[u8; 16],
     n: usize,
@@ -66,12 +70,9 @@ pub fn lookup_by_sizes(
     table: &[f32],
     inputs: &[f32],
     answer: &mut [f32],
-) -> u32
-    ensures { LookedBySizes sizes.now n m table.now inputs.now answer.old result answer.new }
+) -> Result<(), Refusal>
+    ensures { LookedBySizes sizes.now n m table.now inputs.now answer.old (number_in result) answer.new }
 {
-    let laid = layout::layout(*sizes, n, m);
-    if laid.refusal != 0 {
-        return laid.refusal;
-    }
-    lookup(laid.lut, table, inputs, answer)
+    let lut = layout::layout(*sizes, n, m)?;
+    lookup(lut, table, inputs, answer)
 }

@@ -1,36 +1,32 @@
 // The cells of the inks, with their nodes as distances in entries.
-ghost use Rattle.std.specs.Prelude.{◌≡◌, ◌≤◌, length};
+ghost use Rattle.std.specs.Prelude.{◌≡◌, ◌≤◌, length, reverse};
+ghost use Rattle.outcome.specs.Refused.{number_in};
 ghost use Rattle.lookup.specs.Table.{nan_refusal};
-ghost use Rattle.lookup.specs.Places.{first_inks, cells_at};
+ghost use Rattle.lookup.specs.Places.{first_inks};
 
-use cell::Found;
+use cell::Cell;
+use layout::MultidimensionalLut;
+use outcome::Refusal;
 
-// Each ink's lower node, upper node and weight, first ink first, or 16 for a NaN input.
+// Each ink's cell, first ink first; a NaN input is refused.
 pub(crate) fn place(
-    filling: &[u32; 16],
-    sizes: &[u8; 16],
+    lut: &MultidimensionalLut,
     inputs: &[f32],
-    low: &mut [usize; 16],
-    high: &mut [usize; 16],
-    w: &mut [f32; 16],
-) -> u32
-    requires inputs_len_bound { length inputs.now ≤ 16 }
-    requires room { (length low.old ≡ 16) × (length high.old ≡ 16) × (length w.old ≡ 16) }
-    ensures value { result ≡ nan_refusal inputs.now }
-    ensures cells { result ≡ 0
-        → cells_at low.new high.new w.new (length inputs.now)
-        ≡ first_inks filling.now sizes.now inputs.now (length inputs.now) }
+    cells: &mut [Cell],
+) -> Result<(), Refusal>
+    requires few { length inputs.now ≤ 16 }
+    requires room { length cells.old ≡ length inputs.now }
+    ensures number { number_in result ≡ nan_refusal inputs.now }
+    ensures cells { number_in result ≡ 0
+        → reverse cells.new
+        ≡ first_inks lut.now.grid_filling_size lut.now.grid_sizes inputs.now (length inputs.now) }
 {
-    let mut i = 0;
-    while i < inputs.len() {
-        let of = cell::placed(i, inputs[i], sizes[i], filling[i]);
-        let Found::At(c) = of else {
-            return 16;
+    for (i, x) in inputs.iter().enumerate() {
+        let found = cell::placed(i, *x, lut.grid_sizes[i], lut.grid_filling_size[i]);
+        let Some(c) = found else {
+            return Err(Refusal::NanInput);
         };
-        low[i] = c.x;
-        high[i] = c.x_n;
-        w[i] = c.w;
-        i += 1;
+        cells[i] = c;
     }
-    0
+    Ok(())
 }

@@ -1,4 +1,5 @@
 -- Refusals (Refusals); `Shown` has `node-empty`, and `Unique` that each statement leaves one outcome.
+mod Strided
 mod Refusals
 pub mod Shown
 pub mod Unique

@@ -1,20 +1,16 @@
--- What the node reader shows: where a node's entries stand, and that the part is empty exactly when the number is not 0. Assumes nothing.
-use Prim.Native.Nat.{ℕ, zero, suc, ◌+◌, ◌-◌, ◌*◌, ◌≤◌}
-use mathlib.Core.Path.{◌≡◌, refl, sym, ap, ap₂, ◌∙◌}
-use mathlib.Core.Bool.{Bool}
-use mathlib.Core.List.{List, [], reverse}
-use native.Mathlib.Nat.{min-eq_left}
-use native.Mathlib.Omega.{arith}
+-- What the node reader shows, and that the part is empty exactly when the number is not 0. Assumes nothing.
+use Rattle.std.proofs.Common.{◌≡◌, ℕ, zero, suc, ◌+◌, ◌-◌, ◌*◌, Bool, List, []}
+use Rattle.std.proofs.Common.{length, take, drop, reverse, refl, sym, ap, subst, ◌∙◌, arith}
+use Rattle.std.proofs.lemmas.List.{length-take-le, length-drop}
 use lib.Ieee.{Float}
-use lib.ListN.{length, take, drop, length-take, length-drop}
+use Rattle.outcome.specs.Outcome.{Decides, on_done}
 use Rattle.outcome.proofs.Decided.{decided}
 use Rattle.layout.specs.declared.MultidimensionalLut.{MultidimensionalLut}
-use Rattle.layout.specs.Layout.{ink_sizes}
+use Rattle.layout.specs.Layout.{IsLayout, ink_sizes}
 use Rattle.layout.specs.Order.{index}
 use Rattle.layout.proofs.Laws.{outputs-from}
-use Rattle.layout.proofs.Order.{in-grid-within, entries-within}
-use Rattle.nodes.specs.Node.{node_refusal, node_entries, NodeRefused, NodeShown}
-use Rattle.nodes.proofs.Refusals.{node-passed, node-layout, node-inside}
+use Rattle.nodes.specs.Node.{node_refusal, node_entries, NodeRefused, NodePlaced, NodeShown}
+use Rattle.nodes.proofs.Refusals.{is-node, node-stands}
 
 module _ (lut : MultidimensionalLut) (table : List Float) (coordinates : List ℕ) where
   nothing : (r : ℕ) → (r ≡ 0 → ⊥) → node_entries r lut table coordinates ≡ []
@@ -22,51 +18,54 @@ module _ (lut : MultidimensionalLut) (table : List Float) (coordinates : List �
   nothing zero some = absurd (some refl)
   nothing (suc r) some = refl
 
-  stretch : (r : ℕ) → r ≡ 0 → node_entries r lut table coordinates ≡ take lut.output_inks (drop (index (ink_sizes lut) (reverse coordinates) * lut.output_inks) table)
-  unfolding node_entries
-  stretch zero z = refl
-  stretch (suc r) z = absurd (omega arith)
+  -- whichever Bool decides
+  number-is : (b : Bool) → Decides b (IsLayout lut) → (r : ℕ) → NodeRefused lut table coordinates r
+      → node_refusal b lut (length table) coordinates ≡ r
+  number-is b decides r refused =
+      ap (λ (c : Bool). node_refusal c lut (length table) coordinates) (decided b refused.laid decides refused.decides) ∙ sym refused.number
 
-  module _ (r : ℕ) (refused : NodeRefused lut table coordinates r) where
-    pub shown-nothing : (r ≡ 0 → ⊥) → NodeShown lut table coordinates []
-    shown-nothing some =
-        record {
-          laid = refused.laid;
-          decides = refused.decides;
-          entries = sym (ap (λ (k : ℕ). node_entries k lut table coordinates) (sym refused.number) ∙ nothing r some);
-        }
+  -- with the entries of the call's number
+  shown-by : (r : ℕ) → NodeRefused lut table coordinates r → (shown : List Float) → shown ≡ node_entries r lut table coordinates
+      → NodeShown lut table coordinates shown
+  shown-by r refused shown is =
+      record {
+        laid = refused.laid;
+        decides = refused.decides;
+        entries = is ∙ ap (λ (k : ℕ). node_entries k lut table coordinates) refused.number;
+      }
 
-    module _ (z : r ≡ 0) where
-      -- the node's entries stand in the table
-      pub node-stands : index (ink_sizes lut) (reverse coordinates) * lut.output_inks + lut.output_inks ≤ length table
-      node-stands =
-          let inside = in-grid-within (ink_sizes lut) (reverse coordinates) (node-inside lut table coordinates r refused z) in
-          omega (arith, entries-within (ink_sizes lut) (reverse coordinates) lut.output_inks inside, (node-passed lut table coordinates r refused z).enough)
+  pub shown-nothing : (r : ℕ) → NodeRefused lut table coordinates r → (r ≡ 0 → ⊥) → NodeShown lut table coordinates []
+  shown-nothing r refused some = shown-by r refused [] (sym (nothing r some))
 
-      pub shown-node : (start : ℕ) → start ≡ index (ink_sizes lut) (reverse coordinates) * lut.output_inks
-          → NodeShown lut table coordinates (take (start + lut.output_inks - start) (drop start table))
-      shown-node start is =
-          let m = lut.output_inks in
-          let many : start + m - start ≡ m = omega arith in
-          record {
-            laid = refused.laid;
-            decides = refused.decides;
-            entries = ap₂ (λ (k s : ℕ). take k (drop s table)) many is ∙ sym (ap (λ (k : ℕ). node_entries k lut table coordinates) (sym refused.number) ∙ stretch r z);
-          }
+  abbrev first : ℕ
+  first = index (ink_sizes lut) (reverse coordinates) * lut.output_inks
 
-      long : length (node_entries r lut table coordinates) ≡ lut.output_inks
-      long =
-          ap length (stretch r z)
-          ∙ length-take lut.output_inks (drop (index (ink_sizes lut) (reverse coordinates) * lut.output_inks) table)
-          ∙ min-eq_left (rw (length-drop (index (ink_sizes lut) (reverse coordinates) * lut.output_inks) table) (omega (arith, node-stands)))
+  module _ (refused : NodeRefused lut table coordinates 0) where
+    place-is : (start : ℕ) → NodePlaced lut table coordinates start → start ≡ first
+    place-is start placed = placed.offset ∙ ap (λ (k : ℕ). on_done k first 0) (number-is placed.laid placed.decides 0 refused)
 
-    -- The number and the part of two calls on the same arguments: the part is empty exactly when the number is not 0.
-    pub node-empty : (shown : List Float) → NodeShown lut table coordinates shown → (length shown ≡ 0 → r ≡ 0 → ⊥) × ((r ≡ 0 → ⊥) → length shown ≡ 0)
-    node-empty shown holds =
-        let same : shown ≡ node_entries r lut table coordinates =
-        holds.entries
-        ∙ ap (λ (b : Bool). node_entries (node_refusal b lut (length table) coordinates) lut table coordinates) (decided holds.laid refused.laid holds.decides refused.decides)
-        ∙ ap (λ (k : ℕ). node_entries k lut table coordinates) (sym refused.number) in (
-          (λ none z. let m = outputs-from lut (node-layout lut table coordinates r refused z) in omega (arith, ap length same, long z)),
-          (λ some. ap length same ∙ ap length (nothing r some)),
-        )
+    pub shown-node : (start : ℕ) → NodePlaced lut table coordinates start
+        → NodeShown lut table coordinates (take (start + lut.output_inks - start) (drop start table))
+    unfolding node_entries
+    shown-node start placed =
+        let many : start + lut.output_inks - start ≡ lut.output_inks = omega arith in
+        shown-by 0 refused _ (rw (many, place-is start placed))
+
+    long : length (node_entries 0 lut table coordinates) ≡ lut.output_inks
+    unfolding node_entries
+    long =
+        let stands = node-stands lut table coordinates refused in
+        length-take-le lut.output_inks (drop first table) (omega (arith, length-drop first table, stands))
+
+  -- The number and the part of two calls on the same arguments: the part is empty exactly when the number is not 0.
+  pub node-empty : (r : ℕ) (refused : NodeRefused lut table coordinates r) (shown : List Float) → NodeShown lut table coordinates shown
+      → (length shown ≡ 0 → r ≡ 0 → ⊥) × ((r ≡ 0 → ⊥) → length shown ≡ 0)
+  node-empty r refused shown holds =
+      let same : shown ≡ node_entries r lut table coordinates =
+      holds.entries ∙ ap (λ (k : ℕ). node_entries k lut table coordinates) (number-is holds.laid holds.decides r refused) in (
+        (λ none z.
+            let done : NodeRefused lut table coordinates 0 = subst (NodeRefused lut table coordinates) z refused in
+            let m = outputs-from lut (is-node lut table coordinates done).layout in
+            omega (arith, ap length (same ∙ ap (λ (k : ℕ). node_entries k lut table coordinates) z), long done)),
+        (λ some. ap length (same ∙ nothing r some)),
+      )

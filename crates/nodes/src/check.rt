@@ -1,14 +1,16 @@
 // The refusals that come first.
+ghost use Rattle.outcome.specs.Refused.{number_in};
 ghost use Rattle.nodes.specs.Checks.{Checked};
 
 use layout::MultidimensionalLut;
+use outcome::Refusal;
 
-// 9 not a layout's record, then 6 and 7.
-pub(crate) fn refused(lut: MultidimensionalLut, table: usize, given: usize) -> u32
-    ensures { Checked lut table given result }
+// A record that is no layout's is refused, then the lengths.
+pub(crate) fn lengths(lut: MultidimensionalLut, table: usize, given: usize) -> Result<(), Refusal>
+    ensures { Checked lut table given (number_in result) }
 {
     if !layout::is_layout(lut) {
-        return 9;
+        return Err(Refusal::ForeignRecord);
     }
-    layout::length_refusal(layout::entry_count(lut), lut.input_inks, table, given)
+    layout::check_lengths(layout::entry_count(lut), lut.input_inks, table, given)
 }

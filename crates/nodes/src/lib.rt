@@ -4,45 +4,52 @@
 mod check;
 mod coordinates;
 
-ghost use Rattle.nodes.specs.Node.{NodeRefused, NodePlaced, NodeShown};
+ghost use Rattle.std.specs.Prelude.{◌+◌, ◌≤◌, length, IfOk};
+ghost use Rattle.outcome.specs.Refused.{number_in};
+ghost use Rattle.nodes.specs.Node.{NodeRefused, NodePlaced, NodeShown, offset_in, entries_in};
 
 use layout::{EntryOffset, MultidimensionalLut};
+use outcome::Refusal;
 
-// The number of a call of `node` on the same arguments.
-pub fn node_refusal(lut: MultidimensionalLut, table: &[f32], coordinates: &[usize]) -> u32
-    ensures { NodeRefused lut table.now coordinates.now result }
+// What a call of `node` on the same arguments refuses: the first that applies.
+pub fn check_node(
+    lut: MultidimensionalLut,
+    table: &[f32],
+    coordinates: &[usize],
+) -> Result<(), Refusal>
+    ensures { NodeRefused lut table.now coordinates.now (number_in result) }
 {
-    let refusal = check::refused(lut, table.len(), coordinates.len());
-    if refusal != 0 {
-        return refusal;
+    check::lengths(lut, table.len(), coordinates.len())?;
+    if !coordinates::below(coordinates, &lut.grid_sizes) {
+        return Err(Refusal::OutsideGrid);
     }
-    let sizes = lut.grid_sizes;
-    if !coordinates::below(coordinates, sizes) {
-        return 10;
-    }
-    0
+    Ok(())
 }
 
-// The place of the node's first entry in the table; on a refusal 0.
-pub fn node_offset(lut: MultidimensionalLut, table: &[f32], coordinates: &[usize]) -> EntryOffset
-    ensures { NodePlaced lut table.now coordinates.now result.0 }
+// The place of the node's first entry in the table.
+pub fn node_offset(
+    lut: MultidimensionalLut,
+    table: &[f32],
+    coordinates: &[usize],
+) -> Result<EntryOffset, Refusal>
+    ensures refused { NodeRefused lut table.now coordinates.now (number_in result) }
+    ensures placed { NodePlaced lut table.now coordinates.now (offset_in result) }
+    ensures within { IfOk result (λ first. first.0 + lut.output_inks ≤ length table.now) }
 {
-    if node_refusal(lut, table, coordinates) != 0 {
-        return EntryOffset(0);
-    }
-    coordinates::first_entry(lut, coordinates)
+    check_node(lut, table, coordinates)?;
+    Ok(coordinates::first_entry(&lut, coordinates))
 }
 
-// The node's m entries, as the part of the table that holds them; on a refusal an empty part.
-pub fn node<'a>(lut: MultidimensionalLut, table: &'a [f32], coordinates: &[usize]) -> &'a [f32]
-    ensures { NodeShown lut table.now coordinates.now result.now }
+// The node's m entries, as the part of the table that holds them.
+pub fn node<'a>(
+    lut: MultidimensionalLut,
+    table: &'a [f32],
+    coordinates: &[usize],
+) -> Result<&'a [f32], Refusal>
+    ensures refused { NodeRefused lut table.now coordinates.now (number_in result) }
+    ensures shown { NodeShown lut table.now coordinates.now (entries_in result) }
 {
-    if node_refusal(lut, table, coordinates) != 0 {
-        return &table[..0];
-    }
-    let first = coordinates::first_entry(lut, coordinates);
-    let start = first.0 as usize;
-    let m = lut.output_inks;
-    let end = start + m;
-    &table[start..end]
+    let EntryOffset(first) = node_offset(lut, table, coordinates)?;
+    let first = first as usize;
+    Ok(&table[first..first + lut.output_inks])
 }

@@ -1,15 +1,13 @@
 -- Block by block: a block's outputs are those of the whole, and what is given so far. Assumes nothing.
 use Prim.Native.Nat.{ℕ, ◌+◌, ◌-◌, ◌*◌, ◌^◌, ◌<◌, ◌≤◌}
 use native.Mathlib.Omega.{arith}
-use native.Mathlib.Nat.{zero-add, not-suc-le-zero, pow-le-pow_right, mul-le-mul_right, zero-lt-suc}
+use native.Mathlib.Nat.{zero-add, pow-le-pow_right, mul-le-mul_right, zero-lt-suc}
 use native.Mathlib.Decide.{dec_lt}
-use mathlib.Core.Path.{◌≡◌, refl, ap, sym, subst, fun_ext, ◌∙◌}
+use mathlib.Core.Path.{◌≡◌, ap, sym, subst, fun_ext, ◌∙◌}
 use mathlib.Core.List.{List, [], ◌++◌}
 use lib.Ieee.{Float, nan}
 use lib.ListN.{length, get_or, take, drop}
 use lib.Seq.{get_or-drop}
-use Rattle.lists.specs.Buffer.{written}
-use Rattle.lists.proofs.Buffer.{length-written, written_at}
 use Rattle.cell.specs.declared.Cell.{Cell}
 use Rattle.lookup.specs.Lookup.{Grid, lookup}
 use Rattle.lookup.specs.Places.{sum, reach, answer}
@@ -17,9 +15,8 @@ use Rattle.walk.specs.Walk.{above, weights_at, folded, distance, Cornered, Folde
 use Rattle.lookup.proofs.Part.{from-drop}
 use Rattle.walk.proofs.Above.{above-answer, above-above, reach-over}
 use Rattle.walk.specs.declared.Four.{Four}
-use Rattle.walk.specs.Blocks.{lane, four_of, at, Holds, Gives, Given}
+use Rattle.walk.specs.Blocks.{lane, Lanes, at, Holds, Gives, Given}
 use Rattle.walk.specs.Steps.{Weighed, tetra_of, first_three, step_cell, steps_at}
-use Rattle.walk.proofs.Blocks.{lane_of}
 use Rattle.walk.proofs.Tetrahedron.{plan-answers}
 use Rattle.walk.proofs.Folding.{folded-above}
 use Rattle.walk.proofs.Steps.{split, weights-at, length-steps, distance-any, distance-reach}
@@ -42,9 +39,6 @@ pub record Upto (f : ℕ → Float) (o m : ℕ) (old now : List Float) : Type 0 
   pub answers : (k : ℕ) → k < o → k < m → get_or now k nan ≡ f k
 
 module _ (f : ℕ → Float) (m : ℕ) (old : List Float) where
-  pub upto-none : Upto f 0 m old old
-  upto-none = record { most = omega arith; room = refl; answers = λ k h. absurd (not-suc-le-zero h) }
-
   pub upto-more : (o : ℕ) (now next : List Float) (g : ℕ → Float) → Upto f o m old now → o < m → Given g o m now next → ((j : ℕ) → j < 4 → o + j < m → g j ≡ f (o + j)) → Upto f (o + 4) m old next
   upto-more o now next g done less given same =
       record {
@@ -64,6 +58,10 @@ module _ (f : ℕ → Float) (m : ℕ) (old : List Float) where
   pub upto_all : (o : ℕ) (now : List Float) → Upto f o m old now → m ≤ o → Gives f m old now
   upto_all o now done all = record { room = done.room; answers = λ k h. done.answers k (omega arith) h }
 
+  -- the last block
+  pub upto-last : (o : ℕ) (now next : List Float) (g : ℕ → Float) → Upto f o m old now → o < m → Given g o m now next → ((j : ℕ) → j < 4 → o + j < m → g j ≡ f (o + j)) → m ≤ o + 4 → Gives f m old next
+  upto-last o now next g done less given same = upto_all (o + 4) next (upto-more o now next g done less given same)
+
 -- a block of the part from o on, given
 pub block-given : (t : List Float) (cs : List Cell) (o m : ℕ) (f : Four) → Holds (answer (take (length t - o) (drop o t)) cs) (m - o) f → (j : ℕ) → j < 4 → o + j < m → lane f j ≡ answer t cs (o + j)
 block-given t cs o m f holds j h less = holds j h (omega arith) ∙ shifted t o cs j
@@ -71,7 +69,7 @@ block-given t cs o m f holds j h less = holds j h (omega arith) ∙ shifted t o 
 -- ---- all outputs at once
 
 -- one block holds them
-pub block-gives : (f : ℕ → Float) (m : ℕ) (old now : List Float) (g : Four) → m ≤ 4 → Given (lane g) 0 m old now → ((j : ℕ) → j < 4 → lane g j ≡ f j) → Gives f m old now
+pub block-gives : (f : ℕ → Float) (m : ℕ) (old now : List Float) (g : Four) → m ≤ 4 → Given (lane g) 0 m old now → Lanes f g → Gives f m old now
 block-gives f m old now g few given same =
     record {
       room = given.room;
@@ -79,11 +77,6 @@ block-gives f m old now g few given same =
           let zeroth = zero-add o in
           ap (λ (i : ℕ). get_or now i nan) (sym zeroth) ∙ given.block o (omega arith) (subst (λ (i : ℕ). i < m) (sym zeroth) h) ∙ same o (omega arith);
     }
-
--- what was written is given
-pub written-gives : (f : ℕ → Float) (m : ℕ) (old now : List Float) → m ≤ length old → now ≡ written f m old → Gives f m old now
-written-gives f m old now room is =
-    record { room = ap length is ∙ length-written f m old; answers = λ o h. ap (λ (l : List Float). get_or l o nan) is ∙ written_at f m old o nan h room }
 
 -- ---- the corners of any inks, folded
 
@@ -93,10 +86,9 @@ module _ (three : ℕ → List Float → Float) (step : List ℕ) (w : List Floa
 
   pub folded-block : (count : ℕ) → count ≡ 2 ^ k → (part : List Float) (left : ℕ) (old filled done : List Float)
       → Cornered three offs part left count old filled → Folded (weights_at w first k) filled done
-      → (f : Four) → f ≡ four_of (λ i. at done (0 + i)) → Holds (λ j. above (three j) (steps_at step w first k) part) left f
-  folded-block count is part left old filled done cornered fold f loaded-is j h less =
-      ap (λ (q : Four). lane q j) loaded-is
-      ∙ lane_of (λ i. at done (0 + i)) j h
+      → (f : Four) → Lanes (λ i. at done (0 + i)) f → Holds (λ j. above (three j) (steps_at step w first k) part) left f
+  folded-block count is part left old filled done cornered fold f loaded j h less =
+      loaded j h
       ∙ ap (at done) (zero-add j)
       ∙ fold.answers j h
       ∙ ap (λ (ws : List Float). folded 4 ws (at filled) j) (sym (weights-at step w first k))
@@ -174,12 +166,3 @@ pub blocks-fit : (most k : ℕ) → k ≤ most → 2 ^ k * 4 ≤ 2 ^ most * 4
 blocks-fit most k few = mul-le-mul_right 4 (corners-fit most k few)
 
 -- ---- all counts of inks
-
-pub inks-on : (step : List ℕ) (w : List Float) (a n : ℕ) → a ≤ n → steps_at step w 0 (n - a + a) ≡ steps_at step w 0 n
-inks-on step w a n h = let e : n - a + a ≡ n = omega arith in ap (steps_at step w 0) e
-
-pub gives_as : (t : List Float) (cs cs' : List Cell) (m : ℕ) (old now : List Float) → cs ≡ cs' → Gives (answer t cs) m old now → Gives (answer t cs') m old now
-gives_as t cs cs' m old now e g = subst (λ (l : List Cell). Gives (answer t l) m old now) e g
-
-pub reach-as : (cs cs' : List Cell) (m n : ℕ) → cs ≡ cs' → reach cs' + m ≤ n → reach cs + m ≤ n
-reach-as cs cs' m n e h = subst (λ (l : List Cell). reach l + m ≤ n) (sym e) h

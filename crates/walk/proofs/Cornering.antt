@@ -1,9 +1,8 @@
 -- The loop over the corners: a block more each turn. Assumes nothing.
 use Prim.Native.Nat.{ℕ, ◌+◌, ◌-◌, ◌*◌, ◌≤◌}
 use native.Mathlib.Omega.{arith}
-use native.Mathlib.Nat.{not-suc-le-zero}
 use native.Mathlib.Decide.{dec_lt}
-use mathlib.Core.Path.{◌≡◌, refl, ap, ◌∙◌}
+use mathlib.Core.Path.{◌≡◌, ap, ◌∙◌}
 use mathlib.Core.List.{List}
 use lib.Ieee.{Float, nan}
 use lib.ListN.{length, get_or, take, drop}
@@ -16,9 +15,6 @@ use Rattle.walk.specs.Walk.{Cornered}
 use Rattle.walk.proofs.Blocks.{written-from-at, written-from-before}
 
 module _ (three : ℕ → List Float → Float) (offs : List ℕ) (part : List Float) (left : ℕ) (old : List Float) where
-  pub cornered-none : Cornered three offs part left 0 old old
-  cornered-none = record { room = refl; entries = λ c o h. absurd (not-suc-le-zero h) }
-
   module _ (now : List Float) (c : ℕ) (done : Cornered three offs part left c old now) where
     pub cornered-more : (f : Four) (next : List Float) → c * 4 + 4 ≤ length old
         → Holds (λ o. three o (take (length part - get_or offs c 0) (drop (get_or offs c 0) part))) left f

@@ -1,7 +1,7 @@
 -- Inks by their steps: split in two, the distances of their corners, their weights. Assumes nothing.
 use Prim.Native.Nat.{ℕ, zero, suc, ◌+◌, ◌-◌, ◌*◌, ◌^◌, ◌/◌, ◌%◌, ◌<◌, ◌≤◌, max}
 use native.Mathlib.Omega.{arith}
-use native.Mathlib.Nat.{pow-suc, pow-le-pow_right, zero-add, suc-add, add-zero, sub_self, zero-lt-suc}
+use native.Mathlib.Nat.{pow-suc, pow-le-pow_right, zero-add, suc-add, add-zero, zero-lt-suc}
 use native.Mathlib.Decide.{dec_lt}
 use mathlib.Core.Path.{◌≡◌, refl, ap, ap₂, sym, subst, ◌∙◌}
 use mathlib.Core.Bool.{Bool, true, false}
@@ -111,20 +111,6 @@ pub record Placed (step : List ℕ) (first k : ℕ) (old now : List ℕ) (count 
   pub distant : Distant (steps_at step [] (first + i) (k - i)) count old now
 
 module _ (step : List ℕ) (first k : ℕ) (old : List ℕ) where
-  pub placed-none : get_or old 0 0 ≡ 0 → Placed step first k old old 1 k
-  placed-none zeroed =
-      record {
-        most = omega arith;
-        sized = ap (λ (n : ℕ). 2 ^ n) (sym (sub_self k));
-        distant = record {
-          room = refl;
-          stand = λ c h.
-              ap (λ (e : ℕ). get_or old e 0) (low_bit c h)
-              ∙ zeroed
-              ∙ ap (λ (n : ℕ). distance (steps_at step [] (first + k) n) c) (sym (sub_self k));
-        };
-      }
-
   module _ (now : List ℕ) (count i : ℕ) (placed : Placed step first k old now count i) (some : 0 < i) where
     abbrev d : ℕ
     d = get_or step (first + (i - 1)) 0
@@ -208,26 +194,9 @@ module _ (step : List ℕ) (first k : ℕ) (old : List ℕ) where
             ∙ sym (distance_high d nan hs c (subst (λ (n : ℕ). c < n) count-is h))
             ∙ ap (λ (n : ℕ). distance (hs ++ (step_cell d nan ∷ [])) (n + c)) (sym count-is)
 
-  pub placed-all : (now : List ℕ) (count i : ℕ) → Placed step first k old now count i → i ≤ 0 → (count ≡ 2 ^ k) × Distant (steps_at step [] first k) (2 ^ k) old now
-  placed-all now count i placed none =
-      let z : i ≡ 0 = omega arith in
-      let same : k - i ≡ k = omega arith in
-      let here : first + i ≡ first = omega arith in
-      let count-is = placed.sized ∙ ap (λ (n : ℕ). 2 ^ n) same in (
-        count-is,
-        record {
-          room = placed.distant.room;
-          stand = λ c h. placed.distant.stand c (omega (arith, count-is)) ∙ ap₂ (λ (f n : ℕ). distance (steps_at step [] f n) c) here same;
-        },
-      )
-
 -- ---- the loop over the corners of one ink
 
 module _ (old : List ℕ) (count d : ℕ) where
-  pub doubled-none : old ≡ written_from count (λ e. get_or old e 0 + d) 0 old
-  unfolding written_from
-  doubled-none = refl
-
   module _ (now : List ℕ) (c : ℕ) (is : now ≡ written_from count (λ e. get_or old e 0 + d) c old) (less : c < count) where
     pub doubled-at : get_or now c 0 ≡ get_or old c 0
     doubled-at = ap (λ (l : List ℕ). get_or l c 0) is ∙ written-from-before count (λ e. get_or old e 0 + d) c old c 0 less
@@ -238,6 +207,3 @@ module _ (old : List ℕ) (count d : ℕ) where
 -- the first distance is stored before the loop
 pub zeroed-length : (old : List ℕ) → length (set old 0 0) ≡ length old
 zeroed-length old = simp length-set
-
-pub distant-from : (hs : List Cell) (n : ℕ) (old now : List ℕ) → Distant hs n (set old 0 0) now → Distant hs n old now
-distant-from hs n old now d = record { room = d.room ∙ zeroed-length old; stand = d.stand }

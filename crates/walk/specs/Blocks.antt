@@ -4,14 +4,15 @@ use Rattle.std.specs.Prelude.{ℕ, ◌+◌, ◌<◌, ◌≡◌, List, [], ◌∷
 use Rattle.std.specs.Float.{nan}
 use Rattle.walk.specs.declared.Four.{Four}
 
--- output i of a block, and the block of four outputs
+-- output i of a block
 abbrev pub lane : Four → ℕ → Float
 lane f i = get_or (f.a ∷ f.b ∷ f.c ∷ f.d ∷ []) i nan
 
-abbrev pub four_of : (ℕ → Float) → Four
-four_of v = record { a = v 0; b = v 1; c = v 2; d = v 3 }
+-- the block f holds the outputs v
+abbrev pub Lanes : (ℕ → Float) → Four → Type 0
+Lanes v f = (k : ℕ) → k < 4 → lane f k ≡ v k
 
--- the block f holds the outputs v, as far as `left` of them are looked at
+-- the same, as far as `left` of them are looked at
 abbrev pub Holds : (ℕ → Float) → ℕ → Four → Type 0
 Holds v left f = (o : ℕ) → o < 4 → o < left → lane f o ≡ v o
 

@@ -13,10 +13,8 @@ fn double(offs: &mut [usize], count: usize, d: usize)
     requires by_index { (c : ℕ) → c < count → get_or offs.old c 0 + d < 18446744073709551616 }
     ensures { offs.new ≡ written_from count (λ c. get_or offs.old c 0 + d) count offs.old }
 {
-    let mut c = 0;
-    while c < count {
+    for c in 0..count {
         offs[count + c] = offs[c] + d;
-        c += 1;
     }
 }
 
@@ -30,11 +28,9 @@ pub(crate) fn distances(step: &[usize; 16], first: usize, k: usize, offs: &mut [
 {
     offs[0] = 0;
     let mut count: usize = 1;
-    let mut i = k;
-    while 0 < i {
-        i -= 1;
+    for i in (0..k).rev() {
         double(offs, count, step[first + i]);
-        count = count * 2;
+        count *= 2;
     }
     count
 }
@@ -57,10 +53,8 @@ pub(crate) fn corners(
         work.old work.new }
 {
     let p = tetra::first_three(step, w);
-    let mut c = 0;
-    while c < count {
+    for c in 0..count {
         let x = offs[c];
         lanes::put(work, c * 4, tetra::block(&t[x..], p, step, w, left));
-        c += 1;
     }
 }

@@ -1,141 +1,94 @@
 // The answers of one ink to four: in one block of four outputs where the count and the table allow it, else output by output.
-ghost use Rattle.std.specs.Prelude.{◌≡◌, [], ◌∷◌, ◌+◌, ◌*◌, ◌≤◌, ◌<◌, length, drop};
+ghost use Rattle.std.specs.Prelude.{◌≡◌, [], ◌∷◌, ℕ, ◌+◌, ◌*◌, ◌≤◌, ◌<◌, length, drop};
 ghost use Rattle.lists.specs.Lists.{last_first, product};
-ghost use Rattle.lists.specs.Buffer.{written};
 ghost use Rattle.lookup.specs.Places.{reach, answer, Promised, SettledIn, SettledWith};
-ghost use Rattle.walk.specs.Blocks.{Gives};
+ghost use Rattle.walk.specs.Blocks.{at, Gives};
 ghost use Rattle.walk.specs.Steps.{tetra_of, fourth, Near};
 ghost use Rattle.walk.specs.Kept.{skip_of, reads_in, Counts};
 
 use crate::{Counted, Plan, cells, count, lanes, tetra};
 use cell::{Cell, Found};
 
-// One ink, with the nodes of its cell as distances in entries: output by output.
-fn one_each(part: &[f32], c: Cell, m: usize, out: &mut [f32])
-    requires m_in_bounds { reach (c ∷ []) + m ≤ length part.now }
+// Output by output.
+fn each<F: Fn(usize) -> f32>(m: usize, out: &mut [f32], answer: F)
     requires room { m ≤ length out.old }
-    ensures { out.new ≡ written (answer part.now (c ∷ [])) m out.old }
+    requires callable { (o : ℕ) → o < m → F.pre answer o }
+    ensures { (o : ℕ) → o < m → F.post answer o (at out.new o) }
 {
-    let x = c.x;
-    let x_n = c.x_n;
-    let w = c.w;
-    let mut o = 0;
-    while o < m {
-        out[o] = binary32::along(part[x + o], part[x_n + o], w);
-        o += 1;
+    for o in 0..m {
+        out[o] = answer(o);
     }
 }
 
-// In one block where there is room.
+// One ink, with the nodes of its cell as distances in entries.
 fn one(part: &[f32], c: Cell, m: usize, out: &mut [f32])
     requires x_bound { (c.x ≤ c.x_n) × (c.x_n + m ≤ length part.now) }
     requires room { m ≤ length out.old }
     ensures { Gives (answer part.now (c ∷ [])) m out.old out.new }
 {
+    let along = |lower, upper| binary32::along(lower, upper, c.w);
     if !lanes::one_block(m, part.len() - c.x_n) {
-        return one_each(part, c, m, out);
+        return each(m, out, |o| along(part[c.x + o], part[c.x_n + o]));
     }
-    let f = lanes::along4(lanes::load(part, c.x), lanes::load(part, c.x_n), c.w);
+    let f = lanes::load(part, c.x).with(lanes::load(part, c.x_n), along);
     lanes::give(f, 0, m, out);
 }
 
 // Two inks: along ink 1 at both nodes of ink 2, then along ink 2.
-fn two_each(part: &[f32], c: Cell, d: Cell, m: usize, out: &mut [f32])
-    requires m_in_bounds { reach (d ∷ c ∷ []) + m ≤ length part.now }
-    requires room { m ≤ length out.old }
-    ensures { out.new ≡ written (answer part.now (d ∷ c ∷ [])) m out.old }
-{
-    let x = c.x;
-    let x_n = c.x_n;
-    let v = c.w;
-    let y = d.x;
-    let y_n = d.x_n;
-    let t = d.w;
-    let mut o = 0;
-    while o < m {
-        let below = binary32::along(part[y + x + o], part[y + x_n + o], v);
-        let above = binary32::along(part[y_n + x + o], part[y_n + x_n + o], v);
-        out[o] = binary32::along(below, above, t);
-        o += 1;
-    }
-}
-
 fn two(part: &[f32], c: Cell, d: Cell, m: usize, out: &mut [f32])
     requires x_bound { (c.x ≤ c.x_n) × (d.x ≤ d.x_n) × (d.x_n + c.x_n + m ≤ length part.now) }
     requires room { m ≤ length out.old }
     ensures { Gives (answer part.now (d ∷ c ∷ [])) m out.old out.new }
 {
+    let along_c = |lower, upper| binary32::along(lower, upper, c.w);
+    let along_d = |lower, upper| binary32::along(lower, upper, d.w);
     let far = d.x_n + c.x_n;
     if !lanes::one_block(m, part.len() - far) {
-        return two_each(part, c, d, m, out);
+        return each(m, out, |o| {
+            let below = along_c(part[d.x + c.x + o], part[d.x + c.x_n + o]);
+            let above = along_c(part[d.x_n + c.x + o], part[far + o]);
+            along_d(below, above)
+        });
     }
-    let below = lanes::along4(
-        lanes::load(part, d.x + c.x),
-        lanes::load(part, d.x + c.x_n),
-        c.w,
-    );
-    let above = lanes::along4(lanes::load(part, d.x_n + c.x), lanes::load(part, far), c.w);
-    lanes::give(lanes::along4(below, above, d.w), 0, m, out);
+    let below = lanes::load(part, d.x + c.x).with(lanes::load(part, d.x + c.x_n), along_c);
+    let above = lanes::load(part, d.x_n + c.x).with(lanes::load(part, far), along_c);
+    lanes::give(below.with(above, along_d), 0, m, out);
 }
 
 // Three inks, in the part that starts at the lowest corner.
-fn three_each(t: &[f32], p: Plan, m: usize, out: &mut [f32])
-    requires near { Near p × (p.far + m ≤ length t.now) }
-    requires room { m ≤ length out.old }
-    ensures { out.new ≡ written (λ o. tetra_of p o t.now) m out.old }
-{
-    let mut o = 0;
-    while o < m {
-        out[o] = tetra::tetra(t, p, o);
-        o += 1;
-    }
-}
-
 fn three(t: &[f32], p: Plan, m: usize, out: &mut [f32])
     requires near { Near p × (p.far + m ≤ length t.now) }
     requires room { m ≤ length out.old }
     ensures { Gives (λ o. tetra_of p o t.now) m out.old out.new }
 {
     if !lanes::one_block(m, t.len() - p.far) {
-        return three_each(t, p, m, out);
+        return each(m, out, |o| tetra::tetra(t, p, o));
     }
     lanes::give(tetra::tetra4(t, p), 0, m, out);
 }
 
-// Four inks: along ink 4, whose step is h, between the answers of three, or the lower of them alone.
-fn four_each(t: &[f32], p: Plan, h: usize, w: f32, alone: bool, m: usize, out: &mut [f32])
-    requires near { Near p × (p.far + h + m ≤ length t.now) }
-    requires room { m ≤ length out.old }
-    ensures { out.new
-        ≡ written (λ o. fourth alone (tetra_of p o t.now) (tetra_of p o (drop h t.now)) w) m out.old }
-{
-    if alone {
-        return three_each(t, p, m, out);
-    }
-    let upper = &t[h..];
-    let mut o = 0;
-    while o < m {
-        out[o] = binary32::lerp(tetra::tetra(t, p, o), tetra::tetra(upper, p, o), w);
-        o += 1;
-    }
-}
-
-// In one block where there is room. `alone`: ink 4 is skipped, and the answer of three is taken as it stands.
+// Four inks: along ink 4, whose step is h, between the answers of three. `alone`: ink 4 is skipped, and the lower answer is
+// taken as it stands.
 fn four(t: &[f32], p: Plan, h: usize, w: f32, alone: bool, m: usize, out: &mut [f32])
     requires near { Near p × (p.far + h + m ≤ length t.now) }
     requires room { m ≤ length out.old }
     ensures { Gives (λ o. fourth alone (tetra_of p o t.now) (tetra_of p o (drop h t.now)) w)
         m out.old out.new }
 {
-    if !lanes::one_block(m, t.len() - h - p.far) {
-        return four_each(t, p, h, w, alone, m, out);
-    }
-    let below = tetra::tetra4(t, p);
     if alone {
-        return lanes::give(below, 0, m, out);
+        return three(t, p, m, out);
     }
-    let above = tetra::tetra4(&t[h..], p);
-    lanes::give(lanes::lerp4(below, above, w), 0, m, out);
+    let upper = &t[h..];
+    let along = |lower, upper| binary32::lerp(lower, upper, w);
+    if !lanes::one_block(m, upper.len() - p.far) {
+        return each(
+            m,
+            out,
+            |o| along(tetra::tetra(t, p, o), tetra::tetra(upper, p, o)),
+        );
+    }
+    let f = tetra::tetra4(t, p).with(tetra::tetra4(upper, p), along);
+    lanes::give(f, 0, m, out);
 }
 
 // One ink or two, or 16 for a NaN input: no answer is written before every input is a cell.

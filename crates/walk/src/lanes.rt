@@ -1,16 +1,15 @@
 // Four neighbouring outputs at a time.
-ghost use Rattle.std.specs.Prelude.{◌≡◌, true, ◌+◌, ◌≤◌, ◌<◌, length, get_or};
+ghost use Rattle.std.specs.Prelude.{◌≡◌, ℕ, true, ◌+◌, ◌≤◌, ◌<◌, length, get_or};
 ghost use Rattle.std.specs.Float.{nan};
-ghost use Rattle.binary32.specs.Blend.{along, lerp, mlaf, rise};
 ghost use Rattle.lists.specs.Buffer.{written_from};
-ghost use Rattle.walk.specs.Blocks.{lane, four_of, at, Given};
+ghost use Rattle.walk.specs.Blocks.{lane, at, Lanes, Given};
 
 use crate::Four;
 
 // The four entries from i on. The part with constant indices lets LLVM see one load of four.
 pub(crate) fn load(s: &[f32], i: usize) -> Four
     requires { i + 4 ≤ length s.now }
-    ensures { result ≡ four_of (λ k. at s.now (i + k)) }
+    ensures { Lanes (λ k. at s.now (i + k)) result }
 {
     let t = &s[i..];
     Four {
@@ -32,37 +31,18 @@ pub(crate) fn put(s: &mut [f32], i: usize, f: Four)
     s[i + 3] = f.d;
 }
 
-pub(crate) fn lerp4(x: Four, y: Four, t: f32) -> Four
-    ensures { result ≡ four_of (λ k. lerp (lane x k) (lane y k) t) }
-{
-    Four {
-        a: binary32::lerp(x.a, y.a, t),
-        b: binary32::lerp(x.b, y.b, t),
-        c: binary32::lerp(x.c, y.c, t),
-        d: binary32::lerp(x.d, y.d, t),
-    }
-}
-
-pub(crate) fn along4(x: Four, y: Four, w: f32) -> Four
-    ensures { result ≡ four_of (λ k. along (lane x k) (lane y k) w) }
-{
-    Four {
-        a: binary32::along(x.a, y.a, w),
-        b: binary32::along(x.b, y.b, w),
-        c: binary32::along(x.c, y.c, w),
-        d: binary32::along(x.d, y.d, w),
-    }
-}
-
-// The sum so far plus the rise from q to p times the ink's weight.
-pub(crate) fn term4(s: Four, p: Four, q: Four, w: f32) -> Four
-    ensures { result ≡ four_of (λ k. mlaf (lane s k) (rise (lane q k) (lane p k)) w) }
-{
-    Four {
-        a: binary32::mlaf(s.a, p.a - q.a, w),
-        b: binary32::mlaf(s.b, p.b - q.b, w),
-        c: binary32::mlaf(s.c, p.c - q.c, w),
-        d: binary32::mlaf(s.d, p.d - q.d, w),
+impl Four {
+    // Lane by lane.
+    pub(crate) fn with<F: Fn(f32, f32) -> f32>(self, other: Four, f: F) -> Four
+        requires { F.IsAlwaysCallable f }
+        ensures { (k : ℕ) → k < 4 → F.post f (lane self k) (lane other k) (lane result k) }
+    {
+        Four {
+            a: f(self.a, other.a),
+            b: f(self.b, other.b),
+            c: f(self.c, other.c),
+            d: f(self.d, other.d),
+        }
     }
 }
 
@@ -83,10 +63,8 @@ pub(crate) fn give(f: Four, o: usize, m: usize, out: &mut [f32])
         return;
     }
     let lanes = [f.a, f.b, f.c, f.d];
-    let mut i = 0;
-    while o + i < m {
+    for i in 0..m - o {
         out[o + i] = lanes[i];
-        i += 1;
     }
 }
 

@@ -49,15 +49,9 @@ fn walk(
         m out.old out.new }
 {
     let count = corners::distances(step, 3, k, offs);
-    let mut o = 0;
-    while o < m {
-        lanes::give(
-            inner(&t[o..], step, w, k, m - o, offs, count, work),
-            o,
-            m,
-            out,
-        );
-        o += 4;
+    for o in (0..m).step_by(4) {
+        let f = inner(&t[o..], step, w, k, m - o, offs, count, work);
+        lanes::give(f, o, m, out);
     }
 }
 
@@ -104,7 +98,7 @@ fn outer(
 ) -> Four
     requires j_bound { (e + 3 + j ≤ 16) × (count ≡ 2 ^ j) × (count ≤ length tops.now) × (count * 4 ≤ length high.old) }
     requires corners_value { (corners ≡ 2 ^ e) × (corners ≤ length offs.now) × (corners * 4 ≤ length work.old) }
-    requires left_in_bounds { reach (steps_at step.now w.now 0 (j + (e + 3))) + left ≤ length t.now }
+    requires left_in_bounds { (c : ℕ) → c < count → get_or tops.now c 0 + reach (steps_at step.now w.now 0 (e + 3)) + left ≤ length t.now }
     requires by_index { (c : ℕ) → c < 2 ^ e → get_or offs.now c 0 ≡ distance (steps_at step.now [] 3 e) c }
     requires by_index_2 { (c : ℕ) → c < 2 ^ j → get_or tops.now c 0 ≡ distance (steps_at step.now [] (e + 3) j) c }
     ensures holds { Holds
@@ -113,15 +107,10 @@ fn outer(
     ensures kept { (length work.new ≡ length work.old)
         × (length high.new ≡ length high.old) }
 {
-    let mut c = 0;
-    while c < count {
-        let x = tops[c];
-        lanes::put(
-            high,
-            c * 4,
-            inner(&t[x..], step, w, e, left, offs, corners, work),
-        );
-        c += 1;
+    for c in 0..count {
+        let part = &t[tops[c]..];
+        let f = inner(part, step, w, e, left, offs, corners, work);
+        lanes::put(high, c * 4, f);
     }
     fold::folds(high, count, w, e + 3, j);
     lanes::load(high, 0)
@@ -150,8 +139,7 @@ fn tower(
 {
     let corners = corners::distances(step, 3, e, offs);
     let count = corners::distances(step, e + 3, j, tops);
-    let mut o = 0;
-    while o < m {
+    for o in (0..m).step_by(4) {
         let f = outer(
             &t[o..],
             step,
@@ -167,7 +155,6 @@ fn tower(
             high,
         );
         lanes::give(f, o, m, out);
-        o += 4;
     }
 }
 

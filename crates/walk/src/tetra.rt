@@ -1,7 +1,7 @@
 // The tetrahedron of the first three inks, by their steps.
 ghost use Rattle.std.specs.Prelude.{◌≡◌, cond, ◌+◌, ◌≤◌, ◌<◌, max, length, get_or};
 ghost use Rattle.binary32.specs.Blend.{mlaf, rise};
-ghost use Rattle.walk.specs.Blocks.{at, Holds, four_of};
+ghost use Rattle.walk.specs.Blocks.{lane, at, Lanes, Holds};
 ghost use Rattle.walk.specs.Steps.{tetra_of, plan_for, first_three, Near};
 
 use crate::{Four, Plan, lanes};
@@ -54,6 +54,15 @@ fn term(sum: f32, t: &[f32], p: usize, q: usize, o: usize, w: f32) -> f32
     binary32::mlaf(sum, t[p + o] - t[q + o], w)
 }
 
+// The same at outputs 0 to 3.
+fn term4(sum: Four, t: &[f32], p: usize, q: usize, w: f32) -> Four
+    requires { (p + 4 ≤ length t.now) × (q + 4 ≤ length t.now) }
+    ensures { Lanes (λ o. mlaf (lane sum o) (rise (at t.now (q + o)) (at t.now (p + o))) w) result }
+{
+    let rise = lanes::load(t, p).with(lanes::load(t, q), |to, from| to - from);
+    sum.with(rise, |sum, rise| binary32::mlaf(sum, rise, w))
+}
+
 // Output o.
 pub(crate) fn tetra(t: &[f32], p: Plan, o: usize) -> f32
     requires { Near p × (p.far + o < length t.now) }
@@ -67,16 +76,11 @@ pub(crate) fn tetra(t: &[f32], p: Plan, o: usize) -> f32
 // Outputs 0 to 3.
 pub(crate) fn tetra4(t: &[f32], p: Plan) -> Four
     requires { Near p × (p.far + 4 ≤ length t.now) }
-    ensures { result ≡ four_of (λ o. tetra_of p o t.now) }
+    ensures { Lanes (λ o. tetra_of p o t.now) result }
 {
-    let s1 = lanes::term4(
-        lanes::load(t, 0),
-        lanes::load(t, p.p1),
-        lanes::load(t, p.q1),
-        p.rx,
-    );
-    let s2 = lanes::term4(s1, lanes::load(t, p.p2), lanes::load(t, p.q2), p.ry);
-    lanes::term4(s2, lanes::load(t, p.p3), lanes::load(t, p.q3), p.rz)
+    let s1 = term4(lanes::load(t, 0), t, p.p1, p.q1, p.rx);
+    let s2 = term4(s1, t, p.p2, p.q2, p.ry);
+    term4(s2, t, p.p3, p.q3, p.rz)
 }
 
 // Output o where it is one of those that are left, else 0.

@@ -1,47 +1,55 @@
--- The rule of the 33-point table: one test that antt computes over the 256 entries, and the law that carries it to each index.
+-- The 33-point table: one test that antt computes over its 256 entries, and what that says of each of them.
 -- Assumes nothing.
 use Prim.Native.Nat.{ℕ, ◌<◌}
-use mathlib.Core.Path.{◌≡◌, subst}
+use mathlib.Core.Path.{◌≡◌, refl, ap, ◌∙◌, subst}
 use mathlib.Core.Bool.{Bool, true, false, not, ◌&&◌}
-use mathlib.Core.List.{List}
-use lib.Dec.{eqb}
-use lib.Ieee.{binary32, nan_bits}
-use lib.ListN.{get_or}
 use borrow.Author.Tests.{eqb-true, not-true}
+use native.Mathlib.Omega.{arith}
+use lib.Count.{count_trailing_zeros}
+use lib.Dec.{eqb, T}
+use lib.Ieee.{binary32, fits, nan_bits, to_bits, of_bits, of_fields, odd, units, round, size, span, climb, neg, sum, add, sub, mul, of_int}
+use lib.Ieee.Bits.{of_bits-to_bits}
+use lib.Ieee.Fits.{sub-fits}
+use lib.ListN.{get_or}
+use Rattle.cell.specs.declared.Cell.{Cell}
 use Rattle.lists.specs.Lists.{tabulate, every}
-use Rattle.lists.proofs.Lists.{length-tabulate, get_or-tabulate, every-at, and_left, and_right}
-use Rattle.weights.specs.Rule.{entry33}
+use Rattle.std.proofs.lemmas.Bool.{and_parts}
+use Rattle.lists.proofs.Lists.{length-tabulate, get_or-tabulate, every-at}
+use Rattle.weights.specs.declared.entries.TheConstants.{ENTRIES_33}
+use Rattle.weights.specs.Rule.{scale_of, cell_of, weight_cell}
 
--- an entry is the rule's, and its bits are no NaN's
-unfoldable pub right : ℕ → ℕ → ℕ → ℕ → Bool
-right index x xₙ b = let e = entry33 index in eqb x e.x && eqb xₙ e.x_n && eqb b e.bits && not (nan_bits binary32 b)
+-- the entry of a code: the two nodes, and the bits of the weight
+abbrev pub entry : ℕ → ℕ × ℕ × ℕ
+entry index = get_or ENTRIES_33 index (0, 0, 0)
 
-unfoldable pub tested : List ℕ → List ℕ → List ℕ → Bool
-tested xs xsₙ bs = every (λ k. right k (get_or xs k 0) (get_or xsₙ k 0) (get_or bs k 0)) (tabulate 256 (λ k. k))
+-- an entry has the nodes of a cell and the bits of its weight, which are no NaN's
+unfoldable pub holds : ℕ × ℕ × ℕ → Cell → Bool
+holds e c = eqb e.0 c.x && (eqb e.1 c.x_n && (eqb e.2 (to_bits binary32 c.w) && not (nan_bits binary32 e.2)))
 
--- the parts of the test at one entry
-parts : (index x xₙ b : ℕ) → right index x xₙ b ≡ true → (record { x = x; x_n = xₙ; bits = b } ≡ entry33 index) × (nan_bits binary32 b ≡ false)
-unfolding right
-parts index x xₙ b h =
-    let e = entry33 index in
-    let lower = eqb x e.x in
-    let upper = eqb xₙ e.x_n in
-    let same = eqb b e.bits in
-    let plain = not (nan_bits binary32 b) in
-    let three : ((lower && upper) && same) ≡ true = and_left ((lower && upper) && same) plain h in
-    let two : (lower && upper) ≡ true = and_left (lower && upper) same three in (
-      (λ i. record {
-        x = eqb-true x e.x (and_left lower upper two) i;
-        x_n = eqb-true xₙ e.x_n (and_right lower upper two) i;
-        bits = eqb-true b e.bits (and_right (lower && upper) same three) i;
-      }),
-      not-true _ (and_right ((lower && upper) && same) plain h),
-    )
+all : every (λ k. holds (entry k) (weight_cell 33 k)) (tabulate 256 (λ k. k)) ≡ true
+unfolding every tabulate holds nan_bits weight_cell cell_of scale_of mul sub add sum neg round units odd size span climb count_trailing_zeros of_int of_bits of_fields to_bits
+all = refl
 
-pub at_each : (xs xsₙ bs : List ℕ) (index : ℕ) → tested xs xsₙ bs ≡ true → index < 256
-    → (record { x = get_or xs index 0; x_n = get_or xsₙ index 0; bits = get_or bs index 0 } ≡ entry33 index) × (nan_bits binary32 (get_or bs index 0) ≡ false)
-unfolding tested
-at_each xs xsₙ bs index h l =
-    let test : ℕ → Bool = λ k. right k (get_or xs k 0) (get_or xsₙ k 0) (get_or bs k 0) in
-    let here = every-at test (tabulate 256 (λ k. k)) index h (rw (length-tabulate 256 (λ k. k)) l) in
-    parts index _ _ _ (subst (λ (k : ℕ). test k ≡ true) (get_or-tabulate 256 (λ k. k) index 0 l) here)
+at_each : (index : ℕ) → index < 256 → holds (entry index) (weight_cell 33 index) ≡ true
+at_each index l =
+    let test : ℕ → Bool = λ k. holds (entry k) (weight_cell 33 k) in
+    let here = every-at test (tabulate 256 (λ k. k)) index all (rw (length-tabulate 256 (λ k. k)) l) in
+    subst (λ (k : ℕ). test k ≡ true) (get_or-tabulate 256 (λ k. k) index 0 l) here
+
+fits-w : (index : ℕ) → T (fits binary32 (weight_cell 33 index).w)
+unfolding weight_cell cell_of
+fits-w index = sub-fits binary32 _ _
+
+-- what the test says
+parts : (e : ℕ × ℕ × ℕ) (c : Cell) → holds e c ≡ true → (e.0 ≡ c.x) × (e.1 ≡ c.x_n) × (e.2 ≡ to_bits binary32 c.w) × (nan_bits binary32 e.2 ≡ false)
+unfolding holds
+parts e c h = grind (arith, eqb-true, not-true, and_parts)
+
+pub entry-number : (index : ℕ) → index < 256 → nan_bits binary32 (entry index).2 ≡ false
+entry-number index l = (parts _ _ (at_each index l)).3
+
+pub entry-cell : (index : ℕ) → index < 256 → let e = entry index in record { x = e.0; x_n = e.1; w = of_bits binary32 e.2 } ≡ weight_cell 33 index
+entry-cell index l =
+    let c = weight_cell 33 index in
+    let is = parts _ c (at_each index l) in
+    λ i. record { x = is.0 i; x_n = is.1 i; w = (ap (of_bits binary32) is.2 ∙ of_bits-to_bits binary32 c.w (fits-w index)) i }

@@ -1,13 +1,13 @@
 -- Document 01, "Weights for 8-bit codes". Definitions only.
-use Rattle.std.specs.Prelude.{ℕ, ◌+◌, ◌-◌, ◌*◌, ◌/◌, min, cond, eqb, Float, replicate}
+use Rattle.std.specs.Prelude.{ℕ, Result, ◌+◌, ◌-◌, ◌*◌, ◌/◌, min, cond, eqb, List, Float, replicate}
+use Rattle.std.specs.Result.{result_unwrap_or}
 use Rattle.std.specs.Float.{binary32}
-use Rattle.std.specs.Float.Ieee.{sub, mul, of_bits, to_bits}
+use Rattle.std.specs.Float.Ieee.{sub, mul, of_bits}
+use Rattle.outcome.specs.declared.Refusal.{Refusal}
+use Rattle.outcome.specs.Refused.{number_in}
 use Rattle.lists.specs.Lists.{tabulate}
 use Rattle.binary32.specs.Numbers.{plus_zero, of_whole}
 use Rattle.cell.specs.declared.Cell.{Cell}
-use Rattle.weights.specs.declared.Entry.{Entry}
-use Rattle.weights.specs.declared.Ranged.{Ranged}
-use Rattle.weights.specs.declared.RangedCell.{RangedCell}
 
 -- the f32 nearest to 1/255
 abbrev pub per_code : Float
@@ -26,13 +26,26 @@ cell_of last s index =
 unfoldable pub weight_cell : ℕ → ℕ → Cell
 weight_cell g index = cell_of (g - 1) (scale_of (g - 1)) index
 
--- what the 33-point table holds of a code: the two nodes, and the bits of the weight
-unfoldable pub entry33 : ℕ → Entry
-entry33 index = let c = weight_cell 33 index in record { x = c.x; x_n = c.x_n; bits = to_bits binary32 c.w }
-
 -- refused weights are zeros
 abbrev pub zero_cell : Cell
 zero_cell = record { x = 0; x_n = 0; w = plus_zero }
+
+-- the weight of one code: its number and its cell
+pub record RangedCell : Type 0 where
+  pub refusal : ℕ
+  pub cell : Cell
+
+-- the weights of all 256 codes, with one number
+pub record Ranged : Type 0 where
+  pub refusal : ℕ
+  pub weights : List Cell
+
+-- what an answer says
+abbrev pub ranged_cell_in : Result Cell Refusal → RangedCell
+ranged_cell_in answer = record { refusal = number_in answer; cell = result_unwrap_or answer zero_cell }
+
+abbrev pub ranged_in : Result (List Cell) Refusal → Ranged
+ranged_in answer = record { refusal = number_in answer; weights = result_unwrap_or answer (replicate 256 zero_cell) }
 
 -- a grid of size 0 is refused with 3
 unfoldable pub ranged_cell : ℕ → ℕ → RangedCell

@@ -1,144 +1,83 @@
 // Weights for 8-bit codes: document 01. The rule is in specs/Rule.antt.
 #![tactic(auto)]
 
-mod bits;
-mod lower;
-mod upper;
+mod entries;
 
-ghost use Rattle.std.specs.Prelude.{◌≡◌, false, min};
-ghost use Rattle.std.specs.Float.{binary32};
-ghost use Rattle.std.specs.Float.Ieee.{nan_bits};
-ghost use Rattle.weights.specs.Rule.{scale_of, cell_of, weight_cell, entry33, zero_cell, ranged_cell, ranged};
+ghost use Rattle.std.specs.Prelude.{◌≡◌, ◌-◌, true, false, nat_eq, IfOk, IfErr};
+ghost use Rattle.weights.specs.Rule.{scale_of, cell_of, weight_cell, ranged_cell, ranged_cell_in, ranged, ranged_in};
 
 use cell::Cell;
-
-// The 256 weights of a grid size: 0 and a cell for each code, or 3 and zeros.
-#[derive(Clone, Copy)]
-pub struct Ranged {
-    pub refusal: u32,
-    pub weights: [Cell; 256],
-}
-
-// The weight of one code: 0 and its cell, or 3 and zeros.
-#[derive(Clone, Copy)]
-pub struct RangedCell {
-    pub refusal: u32,
-    pub cell: Cell,
-}
-
-// Refused weights are zeros.
-fn zero_cell() -> Cell
-    ensures { result ≡ zero_cell }
-{
-    Cell {
-        x: 0,
-        x_n: 0,
-        w: 0.0,
-    }
-}
+use outcome::Refusal;
+use std::array;
 
 // The f32 nearest to 1/255, by its bits.
 const PER_CODE: u32 = 0x3b80_8081;
 
-// s of a grid whose last line is `last`.
-fn scale(last: u8) -> f32
-    ensures { result ≡ scale_of last }
-{
-    (last as f32) * f32::from_bits(PER_CODE)
-}
-
-// The smaller of two numbers.
-fn smaller(a: u16, b: u16) -> u16
-    ensures { result ≡ min a b }
-{
-    if a < b {
-        return a;
-    }
-    b
-}
-
-// The cell of a code in a grid whose last line is `last`.
-fn cell_of(last: u8, s: f32, index: u8) -> Cell
-    ensures { result ≡ cell_of last s index }
-{
-    let x = (index as u16) * (last as u16) / 255;
-    let x_n = smaller(x + 1, last as u16);
-    Cell {
-        x: x as usize,
-        x_n: x_n as usize,
-        w: (index as f32) * s - (x as f32),
-    }
-}
-
-// The weight of one code: 3 where g is 0.
-pub fn ranged_256(g: u8, index: u8) -> RangedCell
-    ensures { result ≡ ranged_cell g index }
-{
-    if g == 0 {
-        return RangedCell {
-            refusal: 3,
-            cell: zero_cell(),
-        };
-    }
-    let last = g - 1;
-    RangedCell {
-        refusal: 0,
-        cell: cell_of(last, scale(last), index),
-    }
-}
-
-// The weights of all 256 codes: 3 where g is 0.
-pub fn create_ranged_256(g: u8) -> Ranged
-    ensures { result ≡ ranged g }
-{
-    let mut weights = [zero_cell(); 256];
-    if g == 0 {
-        return Ranged {
-            refusal: 3,
-            weights,
-        };
-    }
-    let last = g - 1;
-    let s = scale(last);
-    let mut index: usize = 0;
-    while index < 256 {
-        weights[index] = cell_of(last, s, index as u8);
-        index += 1;
-    }
-    Ranged {
-        refusal: 0,
-        weights,
-    }
-}
-
-// An entry of the constant table: the two nodes, and the bits of the weight.
+// What the weights of an axis follow from: its last line, and s.
 #[derive(Clone, Copy)]
-struct Entry {
-    x: u8,
-    x_n: u8,
-    bits: u32,
+struct Axis {
+    last: u8,
+    s: f32,
 }
 
-// The entry of a code.
-fn entry_33(index: u8) -> Entry
-    ensures { (result ≡ entry33 index) × (nan_bits binary32 result.bits ≡ false) }
-{
-    let i = index as usize;
-    Entry {
-        x: lower::LOWER_33[i],
-        x_n: upper::UPPER_33[i],
-        bits: bits::WEIGHT_BITS_33[i],
+impl Axis {
+    // The axis of a grid of g lines.
+    #[tactic(auto, unfolding(crate::specs::Rule::scale_of))]
+    fn new(g: u8) -> Result<Axis, Refusal>
+        ensures ok { IfOk result (λ axis. (nat_eq g 0 ≡ false) × (axis.last ≡ g - 1) × (axis.s ≡ scale_of (g - 1))) }
+        ensures err { IfErr result (λ refusal. (nat_eq g 0 ≡ true) × (refusal ≡ Refusal.ZeroSize)) }
+    {
+        if g == 0 {
+            return Err(Refusal::ZeroSize);
+        }
+        let last = g - 1;
+        Ok(Axis {
+            last,
+            s: (last as f32) * f32::from_bits(PER_CODE),
+        })
     }
+
+    // The cell of a code.
+    #[tactic(auto, unfolding(crate::specs::Rule::cell_of))]
+    fn cell(self, index: u8) -> Cell
+        ensures { result ≡ cell_of self.last self.s index }
+    {
+        let x = (index as u16) * (self.last as u16) / 255;
+        let x_n = (x + 1).min(self.last as u16);
+        Cell {
+            x: x as usize,
+            x_n: x_n as usize,
+            w: (index as f32) * self.s - (x as f32),
+        }
+    }
+}
+
+// The weight of one code in a grid of g lines.
+#[tactic(auto, unfolding(crate::specs::Rule::ranged_cell, crate::specs::Rule::weight_cell))]
+pub fn ranged_256(g: u8, index: u8) -> Result<Cell, Refusal>
+    ensures { ranged_cell_in result ≡ ranged_cell g index }
+{
+    let axis = Axis::new(g)?;
+    Ok(axis.cell(index))
+}
+
+// The weights of all 256 codes in a grid of g lines.
+#[tactic(auto, unfolding(crate::specs::Rule::ranged))]
+pub fn create_ranged_256(g: u8) -> Result<[Cell; 256], Refusal>
+    ensures { ranged_in result ≡ ranged g }
+{
+    let axis = Axis::new(g)?;
+    Ok(array::from_fn(|index| axis.cell(index as u8)))
 }
 
 // The weight of one code in a grid of 33 lines, read from the constant table.
 pub fn ranged_33(index: u8) -> Cell
     ensures { result ≡ weight_cell 33 index }
 {
-    let e = entry_33(index);
+    let (lower, upper, bits) = entries::ENTRIES_33[index as usize];
     Cell {
-        x: e.x as usize,
-        x_n: e.x_n as usize,
-        w: f32::from_bits(e.bits),
+        x: lower as usize,
+        x_n: upper as usize,
+        w: f32::from_bits(bits),
     }
 }

@@ -1,0 +1,7 @@
+-- `walk::corners::corners`: a block more each turn.
+use Rattle.walk.specs.Steps.{tetra_of, first_three}
+use Rattle.walk.specs.Walk.{Cornered}
+use Rattle.walk.proofs.corners.corners.Given as goal
+
+abbrev pub invariant-loop-c : goal.invariant-loop-c
+invariant-loop-c l = Cornered (tetra_of (first_three l.step l.w)) l.offs l.t l.left l.c l.initial.work l.work
