@@ -14,7 +14,7 @@ use Rattle.lists.specs.Lists.{tabulate, some}
 use Rattle.lists.specs.Buffer.{written, left}
 use Rattle.lists.proofs.Lists.{length-tabulate, get_or-tabulate}
 use Rattle.lists.proofs.Buffer.{length-written, written_at}
-use Rattle.layout.specs.declared.Laid.{Laid}
+use Rattle.layout.specs.Layout.{Laid}
 use Rattle.layout.specs.Layout.{laid_of}
 use Rattle.lookup.specs.Table.{answer_at, refusal, Looked}
 use Rattle.probing.specs.Text.{report}

@@ -3,7 +3,7 @@ use Rattle.std.specs.Prelude.{ℕ, ◌≤◌, ◌≡◌, true, List, ◌++◌, m
 use Rattle.binary32.specs.Numbers.{unit_of}
 use Rattle.outcome.specs.Outcome.{or_else}
 use Rattle.lists.specs.Lists.{tabulate}
-use Rattle.layout.specs.declared.Laid.{Laid}
+use Rattle.layout.specs.Layout.{Laid}
 use Rattle.layout.specs.Layout.{laid_of, IsLayout}
 use Rattle.lookup.specs.Table.{answer_at, refusal}
 use Rattle.probing.specs.Text.{report}

@@ -4,18 +4,27 @@
 mod text;
 mod units;
 
-ghost use Rattle.std.specs.Prelude.{◌≡◌, map, ◌≤◌, length, take, drop};
+ghost use Rattle.std.specs.Prelude.{◌≡◌, map, ◌≤◌, [], length, take, drop, IfOk, IfErr};
+ghost use Rattle.outcome.specs.Refused.{number_of, number_in};
+ghost use Rattle.layout.specs.Layout.{laid_in};
 ghost use Rattle.lookup.specs.Table.{Looked};
+ghost use Rattle.probing.specs.Text.{report};
 ghost use Rattle.probing.specs.Probe.{code_of, Asked, probe_output, Probed};
 
-use layout::{Laid, MultidimensionalLut};
+use layout::MultidimensionalLut;
+use outcome::Refusal;
 use text::Report;
 
 // A lookup whose inputs are the ink codes and whose table is the table bytes.
-fn looked(lut: MultidimensionalLut, codes: &[u8], table: &[u8], answers: &mut [f32]) -> u32
+fn looked(
+    lut: MultidimensionalLut,
+    codes: &[u8],
+    table: &[u8],
+    answers: &mut [f32],
+) -> Result<(), Refusal>
     requires codes_len_bound { length codes.now ≤ 15 }
     requires table_len_bound { length table.now ≤ 16384 }
-    ensures { Looked lut (map code_of table.now) (map code_of codes.now) answers.old result answers.new }
+    ensures { Looked lut (map code_of table.now) (map code_of codes.now) answers.old (number_in result) answers.new }
 {
     let mut inputs = [0.0f32; 15];
     let mut entries = [0.0f32; 16384];
@@ -37,8 +46,8 @@ fn split(bytes: &[u8], place: usize) -> (&[u8], &[u8])
 }
 
 // The layout that the first three bytes ask for: a size for all inks, how many inks, and how many outputs.
-fn asked(bytes: &[u8]) -> Laid
-    ensures { Asked bytes.now result }
+fn asked(bytes: &[u8]) -> Result<MultidimensionalLut, Refusal>
+    ensures { Asked bytes.now (laid_in result) }
 {
     let g = lists::byte_at(bytes, 0);
     let n = lists::byte_at(bytes, 1) as usize;
@@ -46,25 +55,28 @@ fn asked(bytes: &[u8]) -> Laid
     layout::layout([g; 16], n, m)
 }
 
+// The lookup that the input asks for: how many answers there are, in the first entries of `answers`.
+fn answered(input: &[u8], answers: &mut [f32; 15]) -> Result<usize, Refusal>
+    ensures ok { IfOk result (λ m. (m ≤ 15) × (report 0 (take m answers.new) ≡ probe_output input.now)) }
+    ensures err { IfErr result (λ refusal. report (number_of refusal) [] ≡ probe_output input.now) }
+{
+    let (bytes, _) = split(input, 16384);
+    let lut = asked(bytes)?;
+    let (_, rest) = split(bytes, 3);
+    let (codes, table) = split(rest, lut.input_inks);
+    looked(lut, codes, table, answers)?;
+    Ok(lut.output_inks)
+}
+
 // What the probe prints for the input.
 fn reported(input: &[u8]) -> Report
     ensures { result ≡ probe_output input.now }
 {
-    let (bytes, _) = split(input, 16384);
-    let laid = asked(bytes);
-    let refusal = laid.refusal;
-    if refusal != 0 {
-        return Report::refused(refusal);
-    }
-    let lut = laid.lut;
-    let (_, rest) = split(bytes, 3);
-    let (codes, table) = split(rest, lut.input_inks);
     let mut answers = [0.0f32; 15];
-    let number = looked(lut, codes, table, &mut answers);
-    if number != 0 {
-        return Report::refused(number);
+    match answered(input, &mut answers) {
+        Ok(m) => Report::accepted(&answers[..m]),
+        Err(refusal) => Report::refused(u32::from(refusal)),
     }
-    Report::accepted(&answers[..lut.output_inks])
 }
 
 // Writes what the probe prints for the input to the start of `out`, and answers how many bytes that is.

@@ -1,57 +1,31 @@
 // Cubes of the list.
-use crate::words::{self, Words};
-use crate::{floats, print};
+use crate::Replay;
 use cell::Cell;
-use cubes::{Cube, Inks, Method};
+use std::array;
 use std::io::{self, Write};
 
-// Three lower nodes, three upper ones, three weights, a size and a count of outputs; then a table, and the call with it.
-pub(crate) fn cube_of(list: &mut Words, out: &mut impl Write, method: Method) -> io::Result<()> {
-    let x = words::number(list);
-    let y = words::number(list);
-    let z = words::number(list);
-    let x_n = words::number(list);
-    let y_n = words::number(list);
-    let z_n = words::number(list);
-    let wx = floats::float(list);
-    let wy = floats::float(list);
-    let wz = floats::float(list);
-    let cells = Inks {
-        red: Cell { x, x_n, w: wx },
-        green: Cell {
-            x: y,
-            x_n: y_n,
-            w: wy,
-        },
-        blue: Cell {
-            x: z,
-            x_n: z_n,
-            w: wz,
-        },
-    };
-    let g = words::byte(list);
-    let m = words::number(list);
-    let mut room = floats::room();
-    let t = words::count(list, 40000);
-    floats::fill(list, false, t, &mut room);
-    let cube = Cube {
-        g,
-        m,
-        entries: &room[..t],
-    };
-    blend(list, out, method, cells, cube)
-}
-
-fn blend(
-    list: &mut Words,
-    out: &mut impl Write,
-    method: Method,
-    cells: Inks<Cell>,
-    cube: Cube,
-) -> io::Result<()> {
-    let r = words::count(list, 4096);
-    let mut buffer = floats::buffer(list, true, r);
-    let left = &mut buffer[..r];
-    let done = cubes::interpolate(method, cells, cube, left);
-    print::answer(out, outcome::number(done), left)
+impl<W: Write> Replay<'_, W> {
+    // Three lower nodes, three upper ones, three weights, a size and a count of outputs; then a table, and the call with it.
+    pub(crate) fn cube<F: Fn(Cell, Cell, Cell, u8, usize, &[f32], &mut [f32]) -> u32>(
+        &mut self,
+        method: F,
+    ) -> io::Result<()>
+        requires { F.IsAlwaysCallable method }
+    {
+        let list = &mut self.list;
+        let lower: [usize; 3] = array::from_fn(|_| list.number());
+        let upper: [usize; 3] = array::from_fn(|_| list.number());
+        let weights: [f32; 3] = array::from_fn(|_| list.float());
+        let [x, y, z]: [Cell; 3] = array::from_fn(|i| Cell {
+            x: lower[i],
+            x_n: upper[i],
+            w: weights[i],
+        });
+        let g = list.byte();
+        let m = list.number();
+        let cube = list.table(40000)?;
+        let mut left = list.floats()?;
+        let number = method(x, y, z, g, m, &cube, &mut left);
+        self.out.answer(number, &left)
+    }
 }

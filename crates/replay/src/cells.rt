@@ -1,50 +1,52 @@
 // Weights of the list.
-use crate::words::{self, Words};
-use crate::{floats, print};
+use crate::Replay;
+use crate::words::low_word;
 use cell::Cell;
 use std::io::{self, Write};
 
-// What a refused weight is printed as.
-const ZERO_CELL: Cell = Cell {
-    x: 0,
-    x_n: 0,
-    w: 0.0,
-};
-
-pub(crate) fn weight(list: &mut Words, out: &mut impl Write) -> io::Result<()> {
-    let g = words::byte(list);
-    let ranged = weights::ranged_256(g, words::byte(list));
-    let cell = ranged.unwrap_or(ZERO_CELL);
-    print::number(out, outcome::number(ranged))?;
-    print::word(out, words::low_word(cell.x))?;
-    print::word(out, words::low_word(cell.x_n))?;
-    print::word(out, patterns::bits(cell.w))
+// One byte more of FNV-1a.
+fn summed(sum: u32, byte: u8) -> u32 {
+    (sum ^ u32::from(byte)).wrapping_mul(0x01000193)
 }
 
-pub(crate) fn constant(list: &mut Words, out: &mut impl Write) -> io::Result<()> {
-    let cell = weights::ranged_33(words::byte(list));
-    print::digits(out, words::low_word(cell.x))?;
-    print::word(out, words::low_word(cell.x_n))?;
-    print::word(out, patterns::bits(cell.w))
-}
-
-// One byte more of FNV-1a, the number's low one.
-fn summed(sum: u32, number: usize) -> u32 {
-    floats::wrapping_mul(sum ^ ((number % 256) as u32), 0x01000193)
-}
-
-fn summed_cell(sum: u32, c: Cell) -> u32 {
-    let w = patterns::bits(c.w) as usize;
-    let nodes = summed(summed(sum, c.x), c.x_n);
-    summed(summed(summed(summed(nodes, w), w >> 8), w >> 16), w >> 24)
-}
-
-pub(crate) fn weights(list: &mut Words, out: &mut impl Write) -> io::Result<()> {
-    let ranged = weights::create_ranged_256(words::byte(list));
-    let mut sum: u32 = 0x811c9dc5;
-    for c in &ranged.unwrap_or([ZERO_CELL; 256]) {
-        sum = summed_cell(sum, *c);
+// The low bytes of the nodes, and the weight's bytes, the low one first.
+fn summed_cell(sum: u32, cell: Cell) -> u32 {
+    let nodes = summed(summed(sum, (cell.x % 256) as u8), (cell.x_n % 256) as u8);
+    let mut all = nodes;
+    for byte in patterns::bits(cell.w).to_le_bytes() {
+        all = summed(all, byte);
     }
-    print::number(out, outcome::number(ranged))?;
-    print::word(out, sum)
+    all
+}
+
+impl<W: Write> Replay<'_, W> {
+    // A cell's upper node and weight, after its lower node.
+    fn cell_after(&mut self, cell: Cell) -> io::Result<()> {
+        self.out.word(low_word(cell.x_n))?;
+        self.out.word(patterns::bits(cell.w))
+    }
+
+    pub(crate) fn weight(&mut self) -> io::Result<()> {
+        let g = self.list.byte();
+        let ranged = weights::ranged_256(g, self.list.byte());
+        self.out.number(ranged.refusal)?;
+        self.out.word(low_word(ranged.cell.x))?;
+        self.cell_after(ranged.cell)
+    }
+
+    pub(crate) fn constant(&mut self) -> io::Result<()> {
+        let cell = weights::ranged_33(self.list.byte());
+        self.out.digits(low_word(cell.x))?;
+        self.cell_after(cell)
+    }
+
+    pub(crate) fn weights(&mut self) -> io::Result<()> {
+        let ranged = weights::create_ranged_256(self.list.byte());
+        let mut sum: u32 = 0x811c9dc5;
+        for cell in ranged.weights {
+            sum = summed_cell(sum, cell);
+        }
+        self.out.number(ranged.refusal)?;
+        self.out.word(sum)
+    }
 }

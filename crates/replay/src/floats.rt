@@ -1,79 +1,74 @@
-// Floats of the list: by their bits, or made from a seed.
-ghost use Rattle.std.specs.Prelude.{◌≡◌, ◌≤◌, length, take};
+// Tables of the list: their entries are listed, or made from a seed that counts up.
+use crate::words::Words;
+use std::alloc::AllocError;
+use std::num::nearest_u32_to_f32;
 
-use crate::words::{self, Words};
-
-// The next word's float.
-pub(crate) fn float(list: &mut Words) -> f32 {
-    patterns::float(words::low_word(words::number(list)))
+// How entries are given. Made ones are shares of 1, or any bits; the seed is that of the next.
+#[derive(Drop)]
+enum Source {
+    Listed,
+    Shares(u32),
+    Patterns(u32),
 }
 
-// a * b at 32 bits.
-pub(crate) fn wrapping_mul(a: u32, b: u32) -> u32 {
-    ((a as u64) * (b as u64) % 4294967296) as u32
-}
-
-// The hash of the seed forms.
-pub(crate) fn hash(seed: u32) -> u32 {
-    let a = wrapping_mul(seed ^ (seed >> 16), 0x7feb352d);
-    let b = wrapping_mul(a ^ (a >> 15), 0x846ca68b);
+// The hash of a seed, which then counts up.
+fn hashed(seed: &mut u32) -> u32 {
+    let s = *seed;
+    *seed = s.wrapping_add(1);
+    let a = (s ^ (s >> 16)).wrapping_mul(0x7feb352d);
+    let b = (a ^ (a >> 15)).wrapping_mul(0x846ca68b);
     b ^ (b >> 16)
 }
 
-// One entry of a table: the next word's float in mode 0, a share of 1 from the seed in mode 1, any bits from it in another.
-fn entry(list: &mut Words, mode: usize, seed: u32) -> f32 {
-    match mode {
-        0 => float(list),
-        1 => std::num::nearest_u32_to_f32(hash(seed) >> 8) / 16777216.0,
-        _ => patterns::float(hash(seed)),
+impl Source {
+    // A mode, and where entries are made the first seed.
+    fn read(list: &mut Words<'_>) -> Source {
+        match list.number() {
+            0 => Source::Listed,
+            1 => Source::Shares(list.word()),
+            _ => Source::Patterns(list.word()),
+        }
+    }
+
+    // The next entry.
+    fn float(&mut self, list: &mut Words<'_>) -> f32 {
+        match self {
+            Source::Listed => list.float(),
+            Source::Shares(seed) => nearest_u32_to_f32(hashed(seed) >> 8) / 16777216.0,
+            Source::Patterns(seed) => patterns::float(hashed(seed)),
+        }
+    }
+
+    // The next entry of a file's table, as its bits.
+    fn bits(&mut self, list: &mut Words<'_>) -> u32 {
+        match self {
+            Source::Listed => list.word(),
+            Source::Shares(seed) | Source::Patterns(seed) => hashed(seed),
+        }
     }
 }
 
-// Fills the first places of a buffer with a table's entries: a mode, and words or a seed; only words where it is listed.
-pub(crate) fn fill(list: &mut Words, listed: bool, count: usize, into: &mut [f32])
-    requires { count ≤ length into.old }
-    ensures { (count ≤ length into.new) × (count ≡ length (take count into.new)) }
-{
-    let mode = match listed {
-        true => 0,
-        false => words::number(list),
-    };
-    let mut seed = match mode {
-        0 => 0,
-        _ => words::low_word(words::number(list)),
-    };
-    for i in 0..count {
-        into[i] = entry(list, mode, seed);
-        seed = std::num::wrapping_add_u32(seed, 1);
+impl Words<'_> {
+    // A count, and a table of as many entries.
+    pub(crate) fn table(&mut self, most: usize) -> Result<Vec<f32>, AllocError> {
+        let count = self.count(most);
+        let mut source = Source::read(self);
+        self.each(count, |list| source.float(list))
     }
-}
 
-// A buffer with a table's entries.
-pub(crate) fn buffer(list: &mut Words, listed: bool, count: usize) -> [f32; 4096]
-    requires { count ≤ 4096 }
-    ensures { (count ≤ length result) × (count ≡ length (take count result)) }
-{
-    let mut all = [0.0f32; 4096];
-    fill(list, listed, count, &mut all);
-    all
-}
-
-// Room for the largest table.
-pub(crate) fn room() -> [f32; 40000]
-    ensures { 40000 ≡ length result }
-{
-    [0.0; 40000]
+    // A count, and a file's table of as many entries, as their bits, so that a NaN keeps its payload.
+    pub(crate) fn table_bits(&mut self) -> Result<Vec<u32>, AllocError> {
+        let count = self.count(1024);
+        let mut source = Source::read(self);
+        self.each(count, |list| source.bits(list))
+    }
 }
 
 // Whether two parts have the same bits, NaN without its payload.
 pub(crate) fn same(one: &[f32], other: &[f32]) -> bool {
-    if one.len() != other.len() {
-        return false;
-    }
-    for i in 0..one.len() {
-        if patterns::bits(one[i]) != patterns::bits(other[i]) {
-            return false;
-        }
-    }
-    true
+    one.len() == other.len()
+        && one
+            .iter()
+            .zip(other)
+            .all(|(a, b)| patterns::bits(*a) == patterns::bits(*b))
 }

@@ -4,52 +4,66 @@
 mod blends;
 mod calls;
 mod cells;
-mod elements;
 mod files;
 mod floats;
+mod kinds;
 mod print;
 mod record;
-mod slabs;
 mod words;
 
-use cubes::Method;
+use kinds::Kind;
+use print::Lines;
 use std::io::{self, BufWriter, Read, Write};
 use words::Words;
 
-// The cases up to a kind that is none, as 0. Each reads its words and prints its line.
+// What is left of the list, and what is printed. A case reads its words and prints its line.
+#[derive(Drop)]
+struct Replay<'a, W: Write> {
+    list: Words<'a>,
+    out: Lines<W>,
+}
+
+impl<W: Write> Replay<'_, W> {
+    fn case(&mut self, kind: Kind) -> io::Result<()> {
+        match kind {
+            Kind::Lookup => self.lookup(),
+            Kind::Layout => self.layout(),
+            Kind::Node => self.node(),
+            Kind::Weight => self.weight(),
+            Kind::Weights => self.weights(),
+            Kind::Pyramidal => self.cube(cubes::pyramidal),
+            Kind::Prismatic => self.cube(cubes::prismatic),
+            Kind::Trilinear => self.cube(cubes::trilinear),
+            Kind::Constant => self.constant(),
+            Kind::Clut => self.clut(),
+            Kind::Slab => self.slab(),
+            Kind::Units => self.units(),
+            Kind::Skipping => self.skipping(),
+            Kind::Write => self.write(),
+            Kind::Read => self.read(),
+        }?;
+        self.out.end()
+    }
+}
+
+// The cases up to a kind that is none, as 0.
 fn main(rt: HostRuntime) -> io::Result<()> {
     let mut input = Vec::new(rt.alloc());
     rt.reader().read_to_end(&mut input)?;
-    let mut list = Words { rest: &input };
-    let mut out = BufWriter::new(rt.alloc(), io::writer(&rt))?;
+    let mut replay = Replay {
+        list: Words {
+            rest: &input,
+            alloc: rt.alloc(),
+        },
+        out: Lines {
+            out: BufWriter::new(rt.alloc(), io::writer(&rt))?,
+        },
+    };
     for _ in 0..65536usize {
-        let kind = words::number(&mut list);
-        match kind {
-            1 | 3 | 13 => {
-                let lut = record::asked(&mut list);
-                calls::tabled(&mut list, &mut out, kind, lut)?;
-            }
-            2 => calls::layout(&mut list, &mut out)?,
-            4 => cells::weight(&mut list, &mut out)?,
-            5 => cells::weights(&mut list, &mut out)?,
-            6 => blends::cube_of(&mut list, &mut out, Method::Pyramidal)?,
-            7 => blends::cube_of(&mut list, &mut out, Method::Prismatic)?,
-            8 => blends::cube_of(&mut list, &mut out, Method::Trilinear)?,
-            9 => cells::constant(&mut list, &mut out)?,
-            10 => elements::clut(&mut list, &mut out)?,
-            11 => {
-                let lut = record::listed(&mut list, 0);
-                calls::tabled(&mut list, &mut out, kind, lut)?;
-            }
-            12 => elements::units(&mut list, &mut out)?,
-            14 => {
-                let lut = record::asked(&mut list);
-                files::write(&mut list, &mut out, lut)?;
-            }
-            15 => files::read(&mut list, &mut out)?,
-            _ => break,
-        }
-        out.write_all(b"\n")?;
+        let Some(kind) = Kind::of(replay.list.number()) else {
+            break;
+        };
+        replay.case(kind)?;
     }
-    out.flush()
+    replay.out.out.flush()
 }

@@ -1,73 +1,86 @@
 // The words that are printed.
 use std::io::{self, Write};
 
-pub(crate) fn number(out: &mut impl Write, value: u32) -> io::Result<()> {
-    write!(out, "{value}")
+#[derive(Drop)]
+pub(crate) struct Lines<W: Write> {
+    pub(crate) out: W,
 }
 
-pub(crate) fn digits(out: &mut impl Write, value: u32) -> io::Result<()> {
-    let text = patterns::hex(value);
-    out.write_all(&text)
-}
-
-// Eight digits after a blank.
-pub(crate) fn word(out: &mut impl Write, value: u32) -> io::Result<()> {
-    out.write_all(b" ")?;
-    digits(out, value)
-}
-
-pub(crate) fn floats(out: &mut impl Write, part: &[f32]) -> io::Result<()> {
-    for i in 0..part.len() {
-        word(out, patterns::bits(part[i]))?;
+impl<W: Write> Lines<W> {
+    pub(crate) fn number(&mut self, value: u32) -> io::Result<()> {
+        write!(self.out, "{value}")
     }
-    Ok(())
-}
 
-pub(crate) fn words(out: &mut impl Write, part: &[u32]) -> io::Result<()> {
-    for i in 0..part.len() {
-        word(out, part[i])?;
+    pub(crate) fn digits(&mut self, value: u32) -> io::Result<()> {
+        self.out.write_all(&patterns::hex(value))
     }
-    Ok(())
-}
 
-// A file's bytes, four to a word, the first counting most; after a word 0 how many more zeros follow it. What is left at the end makes
-// a word of its own.
-pub(crate) fn file(out: &mut impl Write, part: &[u8]) -> io::Result<()> {
-    let mut value: u32 = 0;
-    let mut zeros = false;
-    let mut more: u32 = 0;
-    for i in 0..part.len() {
-        value = (value << 8) | (part[i] as u32);
-        if i % 4 == 3 {
-            if value != 0 {
-                if zeros {
-                    word(out, more)?;
+    // Eight digits after a blank.
+    pub(crate) fn word(&mut self, value: u32) -> io::Result<()> {
+        self.out.write_all(b" ")?;
+        self.digits(value)
+    }
+
+    pub(crate) fn words(&mut self, part: &[u32]) -> io::Result<()> {
+        for value in part {
+            self.word(*value)?;
+        }
+        Ok(())
+    }
+
+    pub(crate) fn floats(&mut self, part: &[f32]) -> io::Result<()> {
+        for x in part {
+            self.word(patterns::bits(*x))?;
+        }
+        Ok(())
+    }
+
+    // A file's bytes, four to a word, the first counting most; after a word 0 how many more zeros follow it. What is left at the end makes
+    // a word of its own.
+    pub(crate) fn file(&mut self, part: &[u8]) -> io::Result<()> {
+        let mut zeros: Option<u32> = None;
+        let (words, rest) = part.as_chunks::<4>();
+        for bytes in words {
+            let value = u32::from_be_bytes(*bytes);
+            zeros = match (value, zeros) {
+                (0, Some(more)) => Some(more.wrapping_add(1)),
+                (0, None) => {
+                    self.word(0)?;
+                    Some(0)
                 }
-                zeros = false;
-                word(out, value)?;
-            } else {
-                if zeros {
-                    more = std::num::wrapping_add_u32(more, 1);
-                } else {
-                    zeros = true;
-                    more = 0;
-                    word(out, 0)?;
+                (_, _) => {
+                    self.more(zeros)?;
+                    self.word(value)?;
+                    None
                 }
-            }
-            value = 0;
+            };
+        }
+        self.more(zeros)?;
+        if rest.is_empty() {
+            return Ok(());
+        }
+        let mut value: u32 = 0;
+        for byte in rest {
+            value = (value << 8) | u32::from(*byte);
+        }
+        self.word(value)
+    }
+
+    // How many more zeros follow a word 0, where there is one.
+    fn more(&mut self, zeros: Option<u32>) -> io::Result<()> {
+        match zeros {
+            Some(more) => self.word(more),
+            None => Ok(()),
         }
     }
-    if zeros {
-        word(out, more)?;
-    }
-    if part.len() % 4 != 0 {
-        word(out, value)?;
-    }
-    Ok(())
-}
 
-// The words of a call that answers a number and leaves floats.
-pub(crate) fn answer(out: &mut impl Write, answered: u32, left: &[f32]) -> io::Result<()> {
-    number(out, answered)?;
-    floats(out, left)
+    // The words of a call that answers a number and leaves floats.
+    pub(crate) fn answer(&mut self, answered: u32, left: &[f32]) -> io::Result<()> {
+        self.number(answered)?;
+        self.floats(left)
+    }
+
+    pub(crate) fn end(&mut self) -> io::Result<()> {
+        self.out.write_all(b"\n")
+    }
 }

@@ -1,6 +1,6 @@
 -- `probing::asked`: an accepted layout's record has the counts that were asked.
 use Rattle.std.proofs.Common.{sym, ap, ◌∙◌, replicate}
-use Rattle.layout.specs.declared.Laid.{Laid}
+use Rattle.layout.specs.Layout.{Laid}
 use Rattle.layout.specs.Layout.{laid_of}
 use Rattle.layout.proofs.BySizes.{laid-inks}
 use Rattle.layout.proofs.Laws.{inks-to, outputs-to}

@@ -1,6 +1,0 @@
--- `replay::files::bits` fills places of a buffer that keeps its length.
-use Rattle.std.proofs.Common.{◌≡◌, length}
-use Rattle.replay.proofs.files.bits.Given as goal
-
-abbrev pub invariant-loop-i : goal.invariant-loop-i
-invariant-loop-i l = length l.all ≡ 1024
