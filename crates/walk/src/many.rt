@@ -55,29 +55,24 @@ fn walk(
     }
 }
 
-// Room for three further inks, which costs less to clear than room for all.
-fn small(t: &[f32], step: &[usize; 16], w: &[f32; 16], k: usize, m: usize, out: &mut [f32])
-    requires k_bound { (k ≤ 3) × (m ≤ 15) × Weighed w.now 3 }
+// Three inks and k more, with room for so many corners and for so many lanes of their blocks.
+fn roomy<const CORNERS: usize, const LANES: usize>(
+    t: &[f32],
+    step: &[usize; 16],
+    w: &[f32; 16],
+    k: usize,
+    m: usize,
+    out: &mut [f32],
+)
+    requires k_bound { (k ≤ 12) × (m ≤ 15) × Weighed w.now 3 }
     requires m_in_bounds { reach (steps_at step.now w.now 0 (k + 3)) + m ≤ length t.now }
-    requires room { m ≤ length out.old }
+    requires sizes { (CORNERS ≤ 64) × (LANES ≤ 256) }
+    requires room { (2 ^ k ≤ CORNERS) × (2 ^ k * 4 ≤ LANES) × (m ≤ length out.old) }
     ensures { Gives (answer t.now (steps_at step.now w.now 0 (k + 3)))
         m out.old out.new }
 {
-    let mut offs = [0usize; 8];
-    let mut work = [0.0f32; 32];
-    walk(t, step, w, k, m, &mut offs, &mut work, out);
-}
-
-// Room for six.
-fn large(t: &[f32], step: &[usize; 16], w: &[f32; 16], k: usize, m: usize, out: &mut [f32])
-    requires k_bound { (k ≤ 6) × (m ≤ 15) × Weighed w.now 3 }
-    requires m_in_bounds { reach (steps_at step.now w.now 0 (k + 3)) + m ≤ length t.now }
-    requires room { m ≤ length out.old }
-    ensures { Gives (answer t.now (steps_at step.now w.now 0 (k + 3)))
-        m out.old out.new }
-{
-    let mut offs = [0usize; 64];
-    let mut work = [0.0f32; 256];
+    let mut offs = [0usize; CORNERS];
+    let mut work = [0.0f32; LANES];
     walk(t, step, w, k, m, &mut offs, &mut work, out);
 }
 
@@ -185,11 +180,12 @@ fn blend(t: &[f32], n: usize, step: &[usize; 16], w: &[f32; 16], m: usize, out: 
         m out.old out.new }
 {
     let k = n - 3;
+    // less room costs less to clear
     if k <= 3 {
-        return small(t, step, w, k, m, out);
+        return roomy::<8, 32>(t, step, w, k, m, out);
     }
     if k <= 6 {
-        return large(t, step, w, k, m, out);
+        return roomy::<64, 256>(t, step, w, k, m, out);
     }
     highest(t, step, w, n - 9, m, out)
 }
