@@ -10,4 +10,4 @@ loop-c-preserved c = cornered-more _ _ _ _ _ _ _ c.loop-c.invariant _ _ (omega a
 pub returns-clause-holds : goal.returns-clause-holds
 returns-clause-holds c =
     let all : c.loop-c.c ≡ c.args.count = omega arith in
-    folded-block _ c.args.step.now c.args.w.now _ _ _ c.requires.by_index_2 _ c.requires.j_bound.1 _ _ _ _ _ (rw all at c.loop-c.invariant) c.folds.ensures _ c.load.ensures
+    folded-block _ c.args.axes.now _ _ _ c.requires.by_index_2 _ c.requires.j_bound.1 _ _ _ _ _ (rw all at c.loop-c.invariant) c.folds.ensures _ c.load.ensures
