@@ -11,7 +11,7 @@ use lib.Seq.{get_or-drop}
 use Rattle.cell.specs.declared.Cell.{Cell}
 use Rattle.lookup.specs.Lookup.{Grid, lookup}
 use Rattle.lookup.specs.Places.{sum, reach, answer}
-use Rattle.walk.specs.Walk.{above, weights_at, folded, distance, Cornered, Folded}
+use Rattle.walk.specs.Walk.{above, weights_at, folded, Distant, Cornered, Folded}
 use Rattle.lookup.proofs.Part.{from-drop}
 use Rattle.walk.proofs.Above.{above-answer, above-above, reach-over}
 use Rattle.walk.specs.declared.Axis.{Axis}
@@ -81,18 +81,18 @@ block-gives f m old now g few given same =
 
 -- ---- the corners of any inks, folded
 
-module _ (three : ℕ → List Float → Float) (axes : List Axis) (first k : ℕ) (offs : List ℕ) (stand : (c : ℕ) → c < 2 ^ k → get_or offs c 0 ≡ distance (steps_at axes first k) c) where
-  pub folded-block : (count : ℕ) → count ≡ 2 ^ k → (part : List Float) (left : ℕ) (old filled done : List Float)
-      → Cornered three offs part left count old filled → Folded (weights_at axes first k) filled done
+module _ (three : ℕ → List Float → Float) (axes : List Axis) (first k : ℕ) (offs : List ℕ) (distant : Distant (steps_at axes first k) k offs) where
+  pub folded-block : (part : List Float) (left : ℕ) (old filled done : List Float)
+      → Cornered three offs part left (length offs) old filled → Folded (weights_at axes first k) filled done
       → (f : Four) → Lanes (λ i. at done (0 + i)) f → Holds (λ j. above (three j) (steps_at axes first k) part) left f
-  folded-block count is part left old filled done cornered fold f loaded j h less =
+  folded-block part left old filled done cornered fold f loaded j h less =
       loaded j h
       ∙ ap (at done) (zero-add j)
       ∙ fold.answers j h
       ∙ ap (λ (ws : List Float). folded 4 ws (at filled) j) (sym (weights-at axes first k))
       ∙ folded-above (three j) (steps_at axes first k) 4 j (at filled) part
       (λ c l. let in-k : c < 2 ^ k = subst (λ (n : ℕ). c < 2 ^ n) (length-steps axes first k) l in
-      cornered.entries c j (subst (λ (n : ℕ). c < n) (sym is) in-k) h less ∙ ap (λ (d : ℕ). three j (drop d part)) (stand c in-k))
+      cornered.entries c j (subst (λ (n : ℕ). c < n) (sym distant.count) in-k) h less ∙ ap (λ (d : ℕ). three j (drop d part)) (distant.stand c in-k))
 
 -- ---- three inks and more
 
@@ -117,8 +117,8 @@ module _ (axes : List Axis) where
       (steps_at axes 3 k) part
       ∙ ap (λ (cs : List Cell). answer part cs o) (sym (inks k))
 
-  pub corner-inside : (k : ℕ) (offs : List ℕ) → ((c : ℕ) → c < 2 ^ k → get_or offs c 0 ≡ distance (steps_at axes 3 k) c) → (count m n : ℕ) → count ≡ 2 ^ k → reach (steps_at axes 0 (k + 3)) + m ≤ n → (c : ℕ) → c < count → get_or offs c 0 + far + m ≤ n
-  corner-inside k offs stand count m n is fits c h = omega (arith, stand c (subst (λ (a : ℕ). c < a) is h), distance-reach (steps_at axes 3 k) c, inks-reach k)
+  pub corner-inside : (k : ℕ) (offs : List ℕ) → Distant (steps_at axes 3 k) k offs → (m n : ℕ) → reach (steps_at axes 0 (k + 3)) + m ≤ n → (c : ℕ) → c < length offs → get_or offs c 0 + far + m ≤ n
+  corner-inside k offs distant m n fits c h = omega (arith, distant.stand c (subst (λ (a : ℕ). c < a) distant.count h), distance-reach (steps_at axes 3 k) c, inks-reach k)
 
   -- of the part from o on
   pub inks-given : Weighed axes 3 → (k : ℕ) (t : List Float) (o m : ℕ) (f : Four)
@@ -138,9 +138,9 @@ module _ (axes : List Axis) where
         ∙ reach-over (steps_at axes (0 + (e + 3)) j) (steps_at axes 0 (e + 3))
         ∙ ap (λ (f : ℕ). reach (steps_at axes f j) + reach (steps_at axes 0 (e + 3))) (zero-add (e + 3))
 
-    pub top-inside : (tops : List ℕ) → ((c : ℕ) → c < 2 ^ j → get_or tops c 0 ≡ distance (steps_at axes (e + 3) j) c) → (count m n : ℕ) → count ≡ 2 ^ j → reach (steps_at axes 0 (j + (e + 3))) + m ≤ n
-        → (c : ℕ) → c < count → get_or tops c 0 + reach (steps_at axes 0 (e + 3)) + m ≤ n
-    top-inside tops stand count m n is fits c h = omega (arith, stand c (subst (λ (a : ℕ). c < a) is h), distance-reach (steps_at axes (e + 3) j) c, tower-reach)
+    pub top-inside : (tops : List ℕ) → Distant (steps_at axes (e + 3) j) j tops → (m n : ℕ) → reach (steps_at axes 0 (j + (e + 3))) + m ≤ n
+        → (c : ℕ) → c < length tops → get_or tops c 0 + reach (steps_at axes 0 (e + 3)) + m ≤ n
+    top-inside tops distant m n fits c h = omega (arith, distant.stand c (subst (λ (a : ℕ). c < a) distant.count h), distance-reach (steps_at axes (e + 3) j) c, tower-reach)
 
     pub tower-given : Weighed axes 3 → (t : List Float) (o m : ℕ) (f : Four)
         → Holds (λ i. above (above (three i) (steps_at axes 3 e)) (steps_at axes (e + 3) j) (take (length t - o) (drop o t))) (m - o) f

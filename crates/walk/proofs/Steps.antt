@@ -17,7 +17,7 @@ use Rattle.lookup.specs.Places.{reach}
 use Rattle.walk.proofs.Above.{reach-over}
 use Rattle.walk.specs.declared.Axis.{Axis}
 use Rattle.walk.specs.Steps.{step_cell, axis, cell_of, steps_at}
-use Rattle.walk.specs.Walk.{distance, weights, weights_at, Distant}
+use Rattle.walk.specs.Walk.{distance, weights, weights_at}
 use Rattle.walk.proofs.Blocks.{written-from-at, written-from-before}
 
 module _ (axes : List Axis) where
@@ -96,7 +96,8 @@ module _ (d : ℕ) (t : Float) where
 pub record Placed (axes : List Axis) (first k : ℕ) (old now : List ℕ) (count i : ℕ) : Type 0 where
   pub most : i ≤ k
   pub sized : count ≡ 2 ^ (k - i)
-  pub distant : Distant (steps_at axes (first + i) (k - i)) count old now
+  pub room : length now ≡ length old
+  pub stand : (c : ℕ) → c < count → get_or now c 0 ≡ distance (steps_at axes (first + i) (k - i)) c
 
 module _ (axes : List Axis) (first k : ℕ) (old : List ℕ) where
   module _ (now : List ℕ) (count i : ℕ) (placed : Placed axes first k old now count i) (some : 0 < i) where
@@ -134,7 +135,7 @@ module _ (axes : List Axis) (first k : ℕ) (old : List ℕ) where
         omega (arith, all, these)
 
     pub sums-fit : reach (steps_at axes first k) < 18446744073709551616 → (c : ℕ) → c < count → get_or now c 0 + d < 18446744073709551616
-    sums-fit fits c h = omega (arith, whole, placed.distant.stand c h, distance-reach hs c)
+    sums-fit fits c h = omega (arith, whole, placed.stand c h, distance-reach hs c)
 
     twice : count + count ≡ 2 ^ (k - (i - 1))
     twice = let p = pow-suc 2 (k - i) in let e = ap (λ (n : ℕ). 2 ^ n) next-count in omega (arith, p, e, placed.sized)
@@ -148,23 +149,21 @@ module _ (axes : List Axis) (first k : ℕ) (old : List ℕ) where
     pub room_for : 2 ^ k ≤ length old → count + count ≤ length now
     room_for fit =
         let most : 2 ^ (k - (i - 1)) ≤ 2 ^ k = pow-le-pow_right (zero-lt-suc 1) (omega arith) in
-        omega (arith, most, twice, placed.distant.room)
+        omega (arith, most, twice, placed.room)
 
     pub placed-more : 2 ^ k ≤ length old → (next : List ℕ) → next ≡ written_from count (λ c. get_or now c 0 + d) count now → Placed axes first k old next (count * 2) (i - 1)
     placed-more fit next is =
         record {
           most = omega (arith, placed.most);
           sized = doubled ∙ twice;
-          distant = record {
-            room = ap length is ∙ length-written-from count _ count now ∙ placed.distant.room;
-            stand = λ c h.
-                elim (dec_lt c count) [
-                  | yes low ↦ below c low ∙ ap (λ (l : List Cell). distance l c) (sym more)
-                  | no high ↦
-                      let e : c ≡ count + (c - count) = omega arith in
-                      ap (λ (j : ℕ). get_or next j 0) e ∙ beyond (c - count) (omega (arith, doubled)) ∙ ap₂ (λ (l : List Cell) (j : ℕ). distance l j) (sym more) (sym e)
-                ];
-          };
+          room = ap length is ∙ length-written-from count _ count now ∙ placed.room;
+          stand = λ c h.
+              elim (dec_lt c count) [
+                | yes low ↦ below c low ∙ ap (λ (l : List Cell). distance l c) (sym more)
+                | no high ↦
+                    let e : c ≡ count + (c - count) = omega arith in
+                    ap (λ (j : ℕ). get_or next j 0) e ∙ beyond (c - count) (omega (arith, doubled)) ∙ ap₂ (λ (l : List Cell) (j : ℕ). distance l j) (sym more) (sym e)
+              ];
         }
       where
         doubled : count * 2 ≡ count + count
@@ -174,14 +173,14 @@ module _ (axes : List Axis) (first k : ℕ) (old : List ℕ) where
         below c h =
             ap (λ (l : List ℕ). get_or l c 0) is
             ∙ written-from-before count (λ e. get_or now e 0 + d) count now c 0 h
-            ∙ placed.distant.stand c h
+            ∙ placed.stand c h
             ∙ sym (distance-low d t hs c (subst (λ (n : ℕ). c < n) count-is h))
 
         beyond : (c : ℕ) → c < count → get_or next (count + c) 0 ≡ distance (hs ++ (step_cell d t ∷ [])) (count + c)
         beyond c h =
             ap (λ (l : List ℕ). get_or l (count + c) 0) is
             ∙ written-from-at count (λ e. get_or now e 0 + d) count now c 0 h (room_for fit)
-            ∙ ap (λ (n : ℕ). n + d) (placed.distant.stand c h)
+            ∙ ap (λ (n : ℕ). n + d) (placed.stand c h)
             ∙ sym (distance_high d t hs c (subst (λ (n : ℕ). c < n) count-is h))
             ∙ ap (λ (n : ℕ). distance (hs ++ (step_cell d t ∷ [])) (n + c)) (sym count-is)
 

@@ -47,12 +47,12 @@ pub record Folded (ws : List Float) (old now : List Float) : Type 0 where
   pub room : length now ≡ length old
   pub answers : (o : ℕ) → o < 4 → get_or now o nan ≡ folded 4 ws (λ i. get_or old i nan) o
 
--- the distances of all corners
-pub record Distant (hs : List Cell) (n : ℕ) (old now : List ℕ) : Type 0 where
-  pub room : length now ≡ length old
-  pub stand : (c : ℕ) → c < n → get_or now c 0 ≡ distance hs c
+-- the distances of all corners of the k inks hs
+pub record Distant (hs : List Cell) (k : ℕ) (offs : List ℕ) : Type 0 where
+  pub count : length offs ≡ 2 ^ k
+  pub stand : (c : ℕ) → c < 2 ^ k → get_or offs c 0 ≡ distance hs c
 
--- the blocks of n corners, as far as `left` outputs of each are looked at
+-- the blocks of the first n corners, as far as `left` outputs of each are looked at
 pub record Cornered (three : ℕ → List Float → Float) (offs : List ℕ) (part : List Float) (left n : ℕ) (old now : List Float) : Type 0 where
   pub room : length now ≡ length old
   pub entries : (c o : ℕ) → c < n → o < 4 → o < left → get_or now (c * 4 + o) nan ≡ three o (drop (get_or offs c 0) part)

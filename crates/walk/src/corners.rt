@@ -18,13 +18,16 @@ fn double(offs: &mut [usize], count: usize, d: usize)
     }
 }
 
-// The distances of the corners of k inks from `first` on, the first of them the highest bit of a corner's number. Answers
-// how many corners there are.
-pub(crate) fn distances(axes: &[Axis; 16], first: usize, k: usize, offs: &mut [usize]) -> usize
+// The distances of the corners of k inks from `first` on, the first of them the highest bit of a corner's number.
+pub(crate) fn distances<'a>(
+    axes: &[Axis; 16],
+    first: usize,
+    k: usize,
+    offs: &'a mut [usize],
+) -> &'a [usize]
     requires k_bound { (first + k ≤ 16) × (2 ^ k ≤ length offs.old) }
     requires k_bound_2 { reach (steps_at axes.now first k) < 18446744073709551616 }
-    ensures value { result ≡ 2 ^ k }
-    ensures stand { Distant (steps_at axes.now first k) (2 ^ k) offs.old offs.new }
+    ensures { Distant (steps_at axes.now first k) k result.now }
 {
     offs[0] = 0;
     let mut count: usize = 1;
@@ -32,28 +35,19 @@ pub(crate) fn distances(axes: &[Axis; 16], first: usize, k: usize, offs: &mut [u
         double(offs, count, axes[first + i].step);
         count *= 2;
     }
-    count
+    &offs[..count]
 }
 
 // The blocks of three inks at all corners: that of corner c stands in work from 4 c on.
-pub(crate) fn corners(
-    t: &[f32],
-    axes: &[Axis; 16],
-    left: usize,
-    offs: &[usize],
-    count: usize,
-    work: &mut [f32],
-)
-    requires count_in_bounds { (count ≤ length offs.now) × (count * 4 ≤ length work.old) }
+pub(crate) fn corners(t: &[f32], axes: &[Axis; 16], left: usize, offs: &[usize], work: &mut [f32])
+    requires offs_in_bounds { length offs.now * 4 ≤ length work.old }
     requires step_bound { (axis axes.now 0).step + (axis axes.now 1).step + (axis axes.now 2).step < 18446744073709551616 }
-    requires by_index { (c : ℕ) → c < count
+    requires by_index { (c : ℕ) → c < length offs.now
         → get_or offs.now c 0 + ((axis axes.now 0).step + (axis axes.now 1).step + (axis axes.now 2).step) + left ≤ length t.now }
-    ensures { Cornered (tetra_of (first_three axes.now)) offs.now t.now left count
-        work.old work.new }
+    ensures { Cornered (tetra_of (first_three axes.now)) offs.now t.now left (length offs.now) work.old work.new }
 {
     let p = tetra::first_three(axes);
-    for c in 0..count {
-        let x = offs[c];
-        lanes::put(work, c * 4, tetra::block(&t[x..], p, axes, left));
+    for (c, x) in offs.iter().enumerate() {
+        lanes::put(work, c * 4, tetra::block(&t[*x..], p, axes, left));
     }
 }

@@ -4,7 +4,7 @@ ghost use Rattle.lists.specs.Lists.{last_first, product};
 ghost use Rattle.lookup.specs.Places.{answer, reach, Promised, SettledWith};
 ghost use Rattle.walk.specs.Blocks.{Holds, Gives};
 ghost use Rattle.walk.specs.Steps.{steps_at, Weighed};
-ghost use Rattle.walk.specs.Walk.{above, blended, distance};
+ghost use Rattle.walk.specs.Walk.{above, blended, Distant};
 ghost use Rattle.walk.specs.Kept.{skip_of, reads_in, Counts};
 
 use crate::{Axis, Counted, Four, Lowest, cells, corners, count, fold, lanes};
@@ -16,17 +16,16 @@ fn inner(
     k: usize,
     left: usize,
     offs: &[usize],
-    count: usize,
     work: &mut [f32],
 ) -> Four
-    requires k_bound { (3 + k ≤ 16) × (count ≡ 2 ^ k) × (count ≤ length offs.now) × (count * 4 ≤ length work.old) }
+    requires k_bound { (3 + k ≤ 16) × (length offs.now * 4 ≤ length work.old) }
     requires left_in_bounds { reach (steps_at axes.now 0 (k + 3)) + left ≤ length t.now }
-    requires by_index { (c : ℕ) → c < 2 ^ k → get_or offs.now c 0 ≡ distance (steps_at axes.now 3 k) c }
+    requires distant { Distant (steps_at axes.now 3 k) k offs.now }
     ensures holds { Holds (λ o. blended axes.now k o t.now) left result }
     ensures kept { length work.new ≡ length work.old }
 {
-    corners::corners(t, axes, left, offs, count, work);
-    fold::folds(work, count, axes, 3, k);
+    corners::corners(t, axes, left, offs, work);
+    fold::folds(work, offs.len(), axes, 3, k);
     lanes::load(work, 0)
 }
 
@@ -46,9 +45,9 @@ fn walk(
     ensures { Gives (answer t.now (steps_at axes.now 0 (k + 3)))
         m out.old out.new }
 {
-    let count = corners::distances(axes, 3, k, offs);
+    let offs = corners::distances(axes, 3, k, offs);
     for o in (0..m).step_by(4) {
-        let f = inner(&t[o..], axes, k, m - o, offs, count, work);
+        let f = inner(&t[o..], axes, k, m - o, offs, work);
         lanes::give(f, o, m, out);
     }
 }
@@ -81,29 +80,25 @@ fn outer(
     j: usize,
     left: usize,
     offs: &[usize],
-    corners: usize,
     tops: &[usize],
-    count: usize,
     work: &mut [f32],
     high: &mut [f32],
 ) -> Four
-    requires j_bound { (e + 3 + j ≤ 16) × (count ≡ 2 ^ j) × (count ≤ length tops.now) × (count * 4 ≤ length high.old) }
-    requires corners_value { (corners ≡ 2 ^ e) × (corners ≤ length offs.now) × (corners * 4 ≤ length work.old) }
-    requires left_in_bounds { (c : ℕ) → c < count → get_or tops.now c 0 + reach (steps_at axes.now 0 (e + 3)) + left ≤ length t.now }
-    requires by_index { (c : ℕ) → c < 2 ^ e → get_or offs.now c 0 ≡ distance (steps_at axes.now 3 e) c }
-    requires by_index_2 { (c : ℕ) → c < 2 ^ j → get_or tops.now c 0 ≡ distance (steps_at axes.now (e + 3) j) c }
+    requires j_bound { (e + 3 + j ≤ 16) × (length tops.now * 4 ≤ length high.old) × (length offs.now * 4 ≤ length work.old) }
+    requires left_in_bounds { (c : ℕ) → c < length tops.now → get_or tops.now c 0 + reach (steps_at axes.now 0 (e + 3)) + left ≤ length t.now }
+    requires distant { Distant (steps_at axes.now 3 e) e offs.now }
+    requires distant_tops { Distant (steps_at axes.now (e + 3) j) j tops.now }
     ensures holds { Holds
         (λ o. above (blended axes.now e o) (steps_at axes.now (e + 3) j) t.now)
         left result }
     ensures kept { (length work.new ≡ length work.old)
         × (length high.new ≡ length high.old) }
 {
-    for c in 0..count {
-        let part = &t[tops[c]..];
-        let f = inner(part, axes, e, left, offs, corners, work);
+    for (c, x) in tops.iter().enumerate() {
+        let f = inner(&t[*x..], axes, e, left, offs, work);
         lanes::put(high, c * 4, f);
     }
-    fold::folds(high, count, axes, e + 3, j);
+    fold::folds(high, tops.len(), axes, e + 3, j);
     lanes::load(high, 0)
 }
 
@@ -127,22 +122,10 @@ fn tower(
     ensures { Gives (answer t.now (steps_at axes.now 0 (j + (e + 3))))
         m out.old out.new }
 {
-    let corners = corners::distances(axes, 3, e, offs);
-    let count = corners::distances(axes, e + 3, j, tops);
+    let offs = corners::distances(axes, 3, e, offs);
+    let tops = corners::distances(axes, e + 3, j, tops);
     for o in (0..m).step_by(4) {
-        let f = outer(
-            &t[o..],
-            axes,
-            e,
-            j,
-            m - o,
-            offs,
-            corners,
-            tops,
-            count,
-            work,
-            high,
-        );
+        let f = outer(&t[o..], axes, e, j, m - o, offs, tops, work, high);
         lanes::give(f, o, m, out);
     }
 }
