@@ -4,22 +4,23 @@ use native.Mathlib.Omega.{arith}
 use native.Mathlib.Nat.{zero-add, pow-le-pow_right, mul-le-mul_right, zero-lt-suc}
 use native.Mathlib.Decide.{dec_lt}
 use mathlib.Core.Path.{◌≡◌, ap, sym, subst, fun_ext, ◌∙◌}
-use mathlib.Core.List.{List, [], ◌++◌}
+use mathlib.Core.List.{List, ◌++◌}
 use lib.Ieee.{Float, nan}
 use lib.ListN.{length, get_or, take, drop}
 use lib.Seq.{get_or-drop}
 use Rattle.cell.specs.declared.Cell.{Cell}
 use Rattle.lookup.specs.Lookup.{Grid, lookup}
 use Rattle.lookup.specs.Places.{sum, reach, answer}
-use Rattle.walk.specs.Walk.{above, weights_at, folded, distance, Cornered, Folded}
+use Rattle.walk.specs.Walk.{above, weights_at, folded, Distant, Cornered, Folded}
 use Rattle.lookup.proofs.Part.{from-drop}
 use Rattle.walk.proofs.Above.{above-answer, above-above, reach-over}
+use Rattle.walk.specs.declared.Axis.{Axis}
 use Rattle.walk.specs.declared.Four.{Four}
 use Rattle.walk.specs.Blocks.{lane, Lanes, at, Holds, Gives, Given}
-use Rattle.walk.specs.Steps.{Weighed, tetra_of, first_three, step_cell, steps_at}
+use Rattle.walk.specs.Steps.{Weighed, tetra_of, first_three, axis, cell_of, steps_at}
 use Rattle.walk.proofs.Tetrahedron.{plan-answers}
 use Rattle.walk.proofs.Folding.{folded-above}
-use Rattle.walk.proofs.Steps.{split, weights-at, length-steps, distance-any, distance-reach}
+use Rattle.walk.proofs.Steps.{split, weights-at, length-steps, distance-reach}
 
 -- ---- output j of the part from o on is output o + j
 
@@ -80,80 +81,77 @@ block-gives f m old now g few given same =
 
 -- ---- the corners of any inks, folded
 
-module _ (three : ℕ → List Float → Float) (step : List ℕ) (w : List Float) (first k : ℕ) (offs : List ℕ) (stand : (c : ℕ) → c < 2 ^ k → get_or offs c 0 ≡ distance (steps_at step [] first k) c) where
-  pub stands : (c : ℕ) → c < 2 ^ k → get_or offs c 0 ≡ distance (steps_at step w first k) c
-  stands c h = stand c h ∙ distance-any step [] w first k c
-
-  pub folded-block : (count : ℕ) → count ≡ 2 ^ k → (part : List Float) (left : ℕ) (old filled done : List Float)
-      → Cornered three offs part left count old filled → Folded (weights_at w first k) filled done
-      → (f : Four) → Lanes (λ i. at done (0 + i)) f → Holds (λ j. above (three j) (steps_at step w first k) part) left f
-  folded-block count is part left old filled done cornered fold f loaded j h less =
+module _ (three : ℕ → List Float → Float) (axes : List Axis) (first k : ℕ) (offs : List ℕ) (distant : Distant (steps_at axes first k) k offs) where
+  pub folded-block : (part : List Float) (left : ℕ) (old filled done : List Float)
+      → Cornered three offs part left (length offs) old filled → Folded (weights_at axes first k) filled done
+      → (f : Four) → Lanes (λ i. at done (0 + i)) f → Holds (λ j. above (three j) (steps_at axes first k) part) left f
+  folded-block part left old filled done cornered fold f loaded j h less =
       loaded j h
       ∙ ap (at done) (zero-add j)
       ∙ fold.answers j h
-      ∙ ap (λ (ws : List Float). folded 4 ws (at filled) j) (sym (weights-at step w first k))
-      ∙ folded-above (three j) (steps_at step w first k) 4 j (at filled) part
-      (λ c l. let in-k : c < 2 ^ k = subst (λ (n : ℕ). c < 2 ^ n) (length-steps step w first k) l in
-      cornered.entries c j (subst (λ (n : ℕ). c < n) (sym is) in-k) h less ∙ ap (λ (d : ℕ). three j (drop d part)) (stands c in-k))
+      ∙ ap (λ (ws : List Float). folded 4 ws (at filled) j) (sym (weights-at axes first k))
+      ∙ folded-above (three j) (steps_at axes first k) 4 j (at filled) part
+      (λ c l. let in-k : c < 2 ^ k = subst (λ (n : ℕ). c < 2 ^ n) (length-steps axes first k) l in
+      cornered.entries c j (subst (λ (n : ℕ). c < n) (sym distant.count) in-k) h less ∙ ap (λ (d : ℕ). three j (drop d part)) (distant.stand c in-k))
 
 -- ---- three inks and more
 
-module _ (step : List ℕ) (w : List Float) where
+module _ (axes : List Axis) where
   abbrev three : ℕ → List Float → Float
-  three = tetra_of (first_three step w)
+  three = tetra_of (first_three axes)
 
   abbrev far : ℕ
-  far = get_or step 0 0 + get_or step 1 0 + get_or step 2 0
+  far = (axis axes 0).step + (axis axes 1).step + (axis axes 2).step
 
   -- all the inks
-  pub inks : (k : ℕ) → steps_at step w 0 (k + 3) ≡ steps_at step w 3 k ++ steps_at step w 0 3
-  inks k = split step w 0 3 k
+  pub inks : (k : ℕ) → steps_at axes 0 (k + 3) ≡ steps_at axes 3 k ++ steps_at axes 0 3
+  inks k = split axes 0 3 k
 
-  pub inks-reach : (k : ℕ) → reach (steps_at step w 0 (k + 3)) ≡ reach (steps_at step w 3 k) + far
-  inks-reach k = let e = ap reach (inks k) ∙ reach-over (steps_at step w 3 k) (steps_at step w 0 3) in omega (arith, e)
+  pub inks-reach : (k : ℕ) → reach (steps_at axes 0 (k + 3)) ≡ reach (steps_at axes 3 k) + far
+  inks-reach k = let e = ap reach (inks k) ∙ reach-over (steps_at axes 3 k) (steps_at axes 0 3) in omega (arith, e)
 
-  pub above-inks : Weighed w 3 → (k o : ℕ) (part : List Float) → above (three o) (steps_at step w 3 k) part ≡ answer part (steps_at step w 0 (k + 3)) o
+  pub above-inks : Weighed axes 3 → (k o : ℕ) (part : List Float) → above (three o) (steps_at axes 3 k) part ≡ answer part (steps_at axes 0 (k + 3)) o
   above-inks weighed k o part =
-      above-answer (step_cell (get_or step 0 0) (get_or w 0 nan)) (step_cell (get_or step 1 0) (get_or w 1 nan)) (step_cell (get_or step 2 0) (get_or w 2 nan)) o (three o)
-      (λ p. plan-answers (get_or step 0 0) (get_or step 1 0) (get_or step 2 0) (get_or w 0 nan) (get_or w 1 nan) (get_or w 2 nan) (weighed 0 (omega arith)) (weighed 1 (omega arith)) (weighed 2 (omega arith)) p o)
-      (steps_at step w 3 k) part
+      above-answer (cell_of (axis axes 0)) (cell_of (axis axes 1)) (cell_of (axis axes 2)) o (three o)
+      (λ p. plan-answers (axis axes 0).step (axis axes 1).step (axis axes 2).step (axis axes 0).w (axis axes 1).w (axis axes 2).w (weighed 0 (omega arith)) (weighed 1 (omega arith)) (weighed 2 (omega arith)) p o)
+      (steps_at axes 3 k) part
       ∙ ap (λ (cs : List Cell). answer part cs o) (sym (inks k))
 
-  pub corner-inside : (k : ℕ) (offs : List ℕ) → ((c : ℕ) → c < 2 ^ k → get_or offs c 0 ≡ distance (steps_at step [] 3 k) c) → (count m n : ℕ) → count ≡ 2 ^ k → reach (steps_at step w 0 (k + 3)) + m ≤ n → (c : ℕ) → c < count → get_or offs c 0 + far + m ≤ n
-  corner-inside k offs stand count m n is fits c h = omega (arith, stands three step w 3 k offs stand c (subst (λ (a : ℕ). c < a) is h), distance-reach (steps_at step w 3 k) c, inks-reach k)
+  pub corner-inside : (k : ℕ) (offs : List ℕ) → Distant (steps_at axes 3 k) k offs → (m n : ℕ) → reach (steps_at axes 0 (k + 3)) + m ≤ n → (c : ℕ) → c < length offs → get_or offs c 0 + far + m ≤ n
+  corner-inside k offs distant m n fits c h = omega (arith, distant.stand c (subst (λ (a : ℕ). c < a) distant.count h), distance-reach (steps_at axes 3 k) c, inks-reach k)
 
   -- of the part from o on
-  pub inks-given : Weighed w 3 → (k : ℕ) (t : List Float) (o m : ℕ) (f : Four)
-      → Holds (λ j. above (three j) (steps_at step w 3 k) (take (length t - o) (drop o t))) (m - o) f
-      → (j : ℕ) → j < 4 → o + j < m → lane f j ≡ answer t (steps_at step w 0 (k + 3)) (o + j)
-  inks-given weighed k t o m f holds = block-given t (steps_at step w 0 (k + 3)) o m f (λ j h less. holds j h less ∙ above-inks weighed k j (take (length t - o) (drop o t)))
+  pub inks-given : Weighed axes 3 → (k : ℕ) (t : List Float) (o m : ℕ) (f : Four)
+      → Holds (λ j. above (three j) (steps_at axes 3 k) (take (length t - o) (drop o t))) (m - o) f
+      → (j : ℕ) → j < 4 → o + j < m → lane f j ≡ answer t (steps_at axes 0 (k + 3)) (o + j)
+  inks-given weighed k t o m f holds = block-given t (steps_at axes 0 (k + 3)) o m f (λ j h less. holds j h less ∙ above-inks weighed k j (take (length t - o) (drop o t)))
 
   -- ---- three inks, e more, and j more
 
   module _ (e j : ℕ) where
-    tower-inks : steps_at step w 0 (j + e + 3) ≡ steps_at step w 0 (j + (e + 3))
-    tower-inks = let a : j + e + 3 ≡ j + (e + 3) = omega arith in ap (steps_at step w 0) a
+    tower-inks : steps_at axes 0 (j + e + 3) ≡ steps_at axes 0 (j + (e + 3))
+    tower-inks = let a : j + e + 3 ≡ j + (e + 3) = omega arith in ap (steps_at axes 0) a
 
-    pub tower-reach : reach (steps_at step w 0 (j + (e + 3))) ≡ reach (steps_at step w (e + 3) j) + reach (steps_at step w 0 (e + 3))
+    pub tower-reach : reach (steps_at axes 0 (j + (e + 3))) ≡ reach (steps_at axes (e + 3) j) + reach (steps_at axes 0 (e + 3))
     tower-reach =
-        ap reach (split step w 0 (e + 3) j)
-        ∙ reach-over (steps_at step w (0 + (e + 3)) j) (steps_at step w 0 (e + 3))
-        ∙ ap (λ (f : ℕ). reach (steps_at step w f j) + reach (steps_at step w 0 (e + 3))) (zero-add (e + 3))
+        ap reach (split axes 0 (e + 3) j)
+        ∙ reach-over (steps_at axes (0 + (e + 3)) j) (steps_at axes 0 (e + 3))
+        ∙ ap (λ (f : ℕ). reach (steps_at axes f j) + reach (steps_at axes 0 (e + 3))) (zero-add (e + 3))
 
-    pub top-inside : (tops : List ℕ) → ((c : ℕ) → c < 2 ^ j → get_or tops c 0 ≡ distance (steps_at step [] (e + 3) j) c) → (count m n : ℕ) → count ≡ 2 ^ j → reach (steps_at step w 0 (j + (e + 3))) + m ≤ n
-        → (c : ℕ) → c < count → get_or tops c 0 + reach (steps_at step w 0 (e + 3)) + m ≤ n
-    top-inside tops stand count m n is fits c h = omega (arith, stands three step w (e + 3) j tops stand c (subst (λ (a : ℕ). c < a) is h), distance-reach (steps_at step w (e + 3) j) c, tower-reach)
+    pub top-inside : (tops : List ℕ) → Distant (steps_at axes (e + 3) j) j tops → (m n : ℕ) → reach (steps_at axes 0 (j + (e + 3))) + m ≤ n
+        → (c : ℕ) → c < length tops → get_or tops c 0 + reach (steps_at axes 0 (e + 3)) + m ≤ n
+    top-inside tops distant m n fits c h = omega (arith, distant.stand c (subst (λ (a : ℕ). c < a) distant.count h), distance-reach (steps_at axes (e + 3) j) c, tower-reach)
 
-    pub tower-given : Weighed w 3 → (t : List Float) (o m : ℕ) (f : Four)
-        → Holds (λ i. above (above (three i) (steps_at step w 3 e)) (steps_at step w (e + 3) j) (take (length t - o) (drop o t))) (m - o) f
-        → (i : ℕ) → i < 4 → o + i < m → lane f i ≡ answer t (steps_at step w 0 (j + (e + 3))) (o + i)
+    pub tower-given : Weighed axes 3 → (t : List Float) (o m : ℕ) (f : Four)
+        → Holds (λ i. above (above (three i) (steps_at axes 3 e)) (steps_at axes (e + 3) j) (take (length t - o) (drop o t))) (m - o) f
+        → (i : ℕ) → i < 4 → o + i < m → lane f i ≡ answer t (steps_at axes 0 (j + (e + 3))) (o + i)
     tower-given weighed t o m f holds i h less =
         let turn : e + 3 ≡ 3 + e = omega arith in
         inks-given weighed (j + e) t o m f
         (λ a b c. holds a b c
-        ∙ above-above (three a) (steps_at step w (e + 3) j) (steps_at step w 3 e) (take (length t - o) (drop o t))
-        ∙ ap (λ (s : ℕ). above (three a) (steps_at step w s j ++ steps_at step w 3 e) (take (length t - o) (drop o t))) turn
-        ∙ ap (λ (cs : List Cell). above (three a) cs (take (length t - o) (drop o t))) (sym (split step w 3 e j)))
+        ∙ above-above (three a) (steps_at axes (e + 3) j) (steps_at axes 3 e) (take (length t - o) (drop o t))
+        ∙ ap (λ (s : ℕ). above (three a) (steps_at axes s j ++ steps_at axes 3 e) (take (length t - o) (drop o t))) turn
+        ∙ ap (λ (cs : List Cell). above (three a) cs (take (length t - o) (drop o t))) (sym (split axes 3 e j)))
         i h less
         ∙ ap (λ (cs : List Cell). answer t cs (o + i)) tower-inks
 

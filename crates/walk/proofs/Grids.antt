@@ -19,15 +19,17 @@ use Rattle.lookup.specs.Idle.{reads, weights_of, active}
 use Rattle.lookup.proofs.Grid.{inks-weights}
 use Rattle.lookup.proofs.Counts.{length-weights, reads_three}
 use Rattle.lookup.proofs.Part.{from-length}
+use Rattle.walk.specs.declared.Axis.{Axis}
+use Rattle.walk.specs.declared.Lowest.TheVariants as lowest
 use Rattle.walk.specs.declared.Plan.{Plan}
 use Rattle.walk.specs.Blocks.{Gives}
-use Rattle.walk.specs.Steps.{step_cell, steps_at, stepped, lows, Weighed, plan_for, tetra_of, Near}
+use Rattle.walk.specs.Steps.{axis, all_inks, lowest_of, step_cell, steps_at, stepped, lows, Weighed, plan_for, tetra_of, Near}
 use Rattle.walk.specs.Walk.{above}
 use Rattle.walk.specs.Kept.{kept, kept_at, reads_in}
 use Rattle.walk.proofs.Above.{above-answer, reach-over}
 use Rattle.walk.proofs.Tetrahedron.{near, plan-answers}
 use Rattle.walk.proofs.Reading.{Proper, cells-proper, cells-reach, cells-done}
-use Rattle.walk.proofs.Stepping.{stepped-answer, stepped-reach, stepped-weights}
+use Rattle.walk.proofs.Stepping.{told_at, stepped-answer, stepped-reach, stepped-weights}
 use Rattle.walk.proofs.Kept.{Light, light-kept, reach-kept, at-start-array, at-start-stepped, kept-answer, kept-reads, three-first, fourth-on}
 
 -- ---- the weights in an array
@@ -40,15 +42,15 @@ abbrev others : List Cell → List Cell
 others [] = []
 others (c ∷ cs) = cs
 
-weighed : (step : List ℕ) (w : List Float) (n : ℕ) (cs : List Cell) → Light cs → steps_at step w 0 n ≡ cs → Weighed w n
-weighed step w zero cs light is i h = absurd (omega arith)
-weighed step w (suc n) [] light is i h = absurd (let e = ap length is in omega (arith, e))
-weighed step w (suc n) (c ∷ cs) light is i h =
+weighed : (axes : List Axis) (n : ℕ) (cs : List Cell) → Light cs → steps_at axes 0 n ≡ cs → Weighed axes n
+weighed axes zero cs light is i h = absurd (omega arith)
+weighed axes (suc n) [] light is i h = absurd (let e = ap length is in omega (arith, e))
+weighed axes (suc n) (c ∷ cs) light is i h =
     elim (dec_lt i n) [
-      | yes low ↦ weighed step w n cs light.1 (ap others is) i low
+      | yes low ↦ weighed axes n cs light.1 (ap others is) i low
       | no high ↦
           let last : i ≡ n = omega arith in
-          rw last (subst (λ (t : Float). Below 1 t) (sym (ap (λ (k : ℕ). get_or w k nan) (sym (zero-add n)) ∙ ap first-weight is)) light.0)
+          rw last (subst (λ (t : Float). Below 1 t) (sym (ap (λ (k : ℕ). (axis axes k).w) (sym (zero-add n)) ∙ ap first-weight is)) light.0)
     ]
 
 light-steps : (cs : List Cell) → Proper cs → Light (stepped cs)
@@ -93,35 +95,35 @@ module _ (filling sizes : List ℕ) (xs : List Float) (m : ℕ) (laid : Promised
     part-answers skip o = ap (λ (a : ℕ). answer_by skip (take (length table - a) (drop a table)) (stepped cs) o) base ∙ stepped-answer skip table cs proper o
 
     -- the inks in arrays, and those of them that are kept
-    module _ (step : List ℕ) (w : List Float) (steps : steps_at step w 0 n ≡ stepped cs) (three : 3 ≤ n)
-        (skip : Float → Bool) (step' : List ℕ) (w' : List Float) (r : ℕ) (kept-are : steps_at step' w' 0 r ≡ kept_at skip step w n) where
+    module _ (axes : List Axis) (steps : steps_at axes 0 n ≡ stepped cs) (three : 3 ≤ n)
+        (skip : Float → Bool) (axes' : List Axis) (r : ℕ) (kept-are : steps_at axes' 0 r ≡ kept_at skip axes n) where
       abbrev from : List Float
       from = take (length table - at) (drop at table)
 
-      all_are : steps_at step w 3 (n - 3) ++ steps_at step w 0 3 ≡ stepped cs
-      all_are = sym (three-first step w n three) ∙ steps
+      all_are : steps_at axes 3 (n - 3) ++ steps_at axes 0 3 ≡ stepped cs
+      all_are = sym (three-first axes n three) ∙ steps
 
-      pub array-weights : Weighed w' r
+      pub array-weights : Weighed axes' r
       array-weights =
-          weighed step' w' r (kept_at skip step w n)
-          (light-kept skip (steps_at step w 3 (n - 3)) (steps_at step w 0 3) (subst Light (sym all_are) (light-steps cs proper)))
+          weighed axes' r (kept_at skip axes n)
+          (light-kept skip (steps_at axes 3 (n - 3)) (steps_at axes 0 3) (subst Light (sym all_are) (light-steps cs proper)))
           kept-are
 
-      pub array-reach : reach (steps_at step' w' 0 r) + m ≤ length from
+      pub array-reach : reach (steps_at axes' 0 r) + m ≤ length from
       array-reach =
-          let fewer = reach-kept skip (steps_at step w 3 (n - 3)) (steps_at step w 0 3) in
+          let fewer = reach-kept skip (steps_at axes 3 (n - 3)) (steps_at axes 0 3) in
           let these = ap reach kept-are in
           let all = ap reach all_are in
           omega (arith, fewer, these, all, part-reach)
 
-      answers : (o : ℕ) → answer from (steps_at step' w' 0 r) o ≡ answer_by skip table cs o
+      answers : (o : ℕ) → answer from (steps_at axes' 0 r) o ≡ answer_by skip table cs o
       answers o =
           ap (λ (l : List Cell). answer from l o) kept-are
-          ∙ kept-answer skip (steps_at step w 0 3) refl o (steps_at step w 3 (n - 3)) (at-start-array step w 3 (n - 3)) from
+          ∙ kept-answer skip (steps_at axes 0 3) refl o (steps_at axes 3 (n - 3)) (at-start-array axes 3 (n - 3)) from
           ∙ ap (λ (l : List Cell). answer_by skip from l o) all_are
           ∙ part-answers skip o
 
-      pub array-done : some is_nan xs ≡ false → (old now : List Float) → m ≤ length old → Gives (answer from (steps_at step' w' 0 r)) m (take m old) now
+      pub array-done : some is_nan xs ≡ false → (old now : List Float) → m ≤ length old → Gives (answer from (steps_at axes' 0 r)) m (take m old) now
           → Settled (answer_in skip (last_first (length xs) sizes) m table xs) m xs old 0 (now ++ drop m old)
       array-done none old now room gives =
           cells-done filling sizes xs m laid table enough n cs are skip is none (answer_by skip table cs) (λ o h. refl) old (now ++ drop m old)
@@ -130,8 +132,32 @@ module _ (filling sizes : List ℕ) (xs : List Float) (m : ℕ) (laid : Promised
 
       pub array-reads : 6 * 2 ^ (r - 3) ≡ reads_in skip (last_first (length xs) sizes) xs
       array-reads =
-          sym (kept-reads skip step w n three step' w' r kept-are)
+          sym (kept-reads skip axes n three axes' r kept-are)
           ∙ ap (reads skip) (ap weights_of steps ∙ stepped-weights cs ∙ ap weights_of are ∙ inks-weights filling sizes xs m laid table enough n is)
+
+-- all inks in an array, and those of them that are kept: they reach no farther than the table, and theirs are the answers and the reads
+pub record InksKept (sizes : List ℕ) (xs : List Float) (m : ℕ) (table : List Float) (at : ℕ) (skip : Float → Bool) (axes : List Axis) (r : ℕ) : Type 0 where
+  pub starts : at + m ≤ length table
+  pub weights : Weighed axes r
+  pub reaches : reach (steps_at axes 0 r) + m ≤ length (take (length table - at) (drop at table))
+  pub done : (old now : List Float) → m ≤ length old → Gives (answer (take (length table - at) (drop at table)) (steps_at axes 0 r)) m (take m old) now
+      → Settled (answer_in skip (last_first (length xs) sizes) m table xs) m xs old 0 (now ++ drop m old)
+  pub reads-are : 6 * 2 ^ (r - 3) ≡ reads_in skip (last_first (length xs) sizes) xs
+
+pub inks-kept : (filling sizes : List ℕ) (xs : List Float) (m : ℕ) → Promised filling sizes (length xs) m → (table : List Float) → product (last_first (length xs) sizes) * m ≤ length table
+    → 3 ≤ length xs → (at : ℕ) → lowest.At at ≡ lowest_of xs (lows (all_inks filling sizes xs))
+    → (axes : List Axis) → (some is_nan xs ≡ false → steps_at axes 0 (length xs) ≡ stepped (all_inks filling sizes xs))
+    → (skip : Float → Bool) (axes' : List Axis) (r : ℕ) → steps_at axes' 0 r ≡ kept_at skip axes (length xs) → InksKept sizes xs m table at skip axes' r
+inks-kept filling sizes xs m laid table enough three at said axes steps skip axes' r kept-are =
+    let inks = all_inks filling sizes xs in
+    let told : (some is_nan xs ≡ false) × (at ≡ lows inks) = told_at xs (lows inks) _ said at refl in
+    record {
+      starts = part-starts filling sizes xs m laid table enough (length xs) refl inks refl at told.1;
+      weights = array-weights filling sizes xs m laid table enough (length xs) refl inks refl at told.1 axes (steps told.0) three skip axes' r kept-are;
+      reaches = array-reach filling sizes xs m laid table enough (length xs) refl inks refl at told.1 axes (steps told.0) three skip axes' r kept-are;
+      done = array-done filling sizes xs m laid table enough (length xs) refl inks refl at told.1 axes (steps told.0) three skip axes' r kept-are told.0;
+      reads-are = array-reads filling sizes xs m laid table enough (length xs) refl inks refl at told.1 axes (steps told.0) three skip axes' r kept-are;
+    }
 
 -- ---- three inks, and hs above them
 

@@ -9,7 +9,7 @@ use mathlib.Core.Bool.{Bool, true, false, cond}
 use mathlib.Core.List.{List, [], ◌∷◌, ◌++◌}
 use lib.Dec.{eqb}
 use lib.Ieee.{Float, nan}
-use lib.ListN.{length, get_or, take, drop, set, length-set, length-append}
+use lib.ListN.{length, take, drop, set, length-set, length-append}
 use lib.Seq.{get_or-set_same, get_or-set_other}
 use Rattle.binary32.specs.Range.{Below}
 use Rattle.binary32.specs.Blend.{lerp}
@@ -20,7 +20,8 @@ use Rattle.lookup.specs.Idle.{reads, weights_of, fourth_on, active}
 use Rattle.lookup.proofs.More.{lookup-more, lookup-few}
 use Rattle.lookup.proofs.Part.{drop-within}
 use Rattle.lookup.proofs.Counts.{length-weights, reads_three}
-use Rattle.walk.specs.Steps.{step_cell, steps_at, stepped, fourth}
+use Rattle.walk.specs.declared.Axis.{Axis}
+use Rattle.walk.specs.Steps.{step_cell, axis, cell_of, steps_at, stepped, fourth}
 use Rattle.walk.specs.Walk as walk
 use Rattle.walk.specs.Kept.{kept, kept_at}
 use Rattle.walk.proofs.Steps.{split, length-steps}
@@ -31,17 +32,17 @@ Light [] = Unit {0}
 Light (c ∷ cs) = Below 1 c.w × Light cs
 
 -- the first three of n inks come last in the list
-pub three-first : (step : List ℕ) (w : List Float) (n : ℕ) → 3 ≤ n → steps_at step w 0 n ≡ steps_at step w 3 (n - 3) ++ steps_at step w 0 3
-three-first step w n some = let e : n ≡ n - 3 + 3 = omega arith in ap (steps_at step w 0) e ∙ split step w 0 3 (n - 3)
+pub three-first : (axes : List Axis) (n : ℕ) → 3 ≤ n → steps_at axes 0 n ≡ steps_at axes 3 (n - 3) ++ steps_at axes 0 3
+three-first axes n some = let e : n ≡ n - 3 + 3 = omega arith in ap (steps_at axes 0) e ∙ split axes 0 3 (n - 3)
 
 -- each lower node is where the part starts
 abbrev pub AtStart : List Cell → Type 0
 AtStart [] = Unit {0}
 AtStart (c ∷ cs) = (c.x ≡ 0) × AtStart cs
 
-pub at-start-array : (step : List ℕ) (w : List Float) (first k : ℕ) → AtStart (steps_at step w first k)
-at-start-array step w first zero = tt
-at-start-array step w first (suc k) = (refl, at-start-array step w first k)
+pub at-start-array : (axes : List Axis) (first k : ℕ) → AtStart (steps_at axes first k)
+at-start-array axes first zero = tt
+at-start-array axes first (suc k) = (refl, at-start-array axes first k)
 
 pub at-start-stepped : (cs : List Cell) → AtStart (stepped cs)
 at-start-stepped [] = tt
@@ -122,111 +123,89 @@ module _ (skip : Float → Bool) where
   kept-count (h ∷ hs) = count-step (active skip (weights_of hs)) h (kept skip hs) (skip h.w) (kept-count hs)
 
   -- each ink that is kept doubles them
-  module _ (step : List ℕ) (w : List Float) (n : ℕ) (some : 3 ≤ n) (step' : List ℕ) (w' : List Float) (r : ℕ)
-      (are : steps_at step' w' 0 r ≡ kept_at skip step w n) where
+  module _ (axes : List Axis) (n : ℕ) (some : 3 ≤ n) (axes' : List Axis) (r : ℕ)
+      (are : steps_at axes' 0 r ≡ kept_at skip axes n) where
     abbrev others : List Cell
-    others = steps_at step w 3 (n - 3)
+    others = steps_at axes 3 (n - 3)
 
     active-are : r - 3 ≡ active skip (weights_of others)
     active-are =
-        let all = sym (length-steps step' w' 0 r) ∙ ap length are ∙ length-append (kept skip others) (steps_at step w 0 3) in
+        let all = sym (length-steps axes' 0 r) ∙ ap length are ∙ length-append (kept skip others) (steps_at axes 0 3) in
         omega (arith, all, kept-count others)
 
-    pub kept-reads : reads skip (weights_of (steps_at step w 0 n)) ≡ 6 * 2 ^ (r - 3)
+    pub kept-reads : reads skip (weights_of (steps_at axes 0 n)) ≡ 6 * 2 ^ (r - 3)
     kept-reads =
-        reads_three skip (weights_of (steps_at step w 0 n)) (omega (arith, length-weights (steps_at step w 0 n), length-steps step w 0 n))
-        ∙ ap (λ (l : List Cell). 6 * 2 ^ active skip (fourth_on (weights_of l))) (three-first step w n some)
-        ∙ ap (λ (ws : List Float). 6 * 2 ^ active skip ws) (fourth-on others (steps_at step w 0 3) refl)
+        reads_three skip (weights_of (steps_at axes 0 n)) (omega (arith, length-weights (steps_at axes 0 n), length-steps axes 0 n))
+        ∙ ap (λ (l : List Cell). 6 * 2 ^ active skip (fourth_on (weights_of l))) (three-first axes n some)
+        ∙ ap (λ (ws : List Float). 6 * 2 ^ active skip ws) (fourth-on others (steps_at axes 0 3) refl)
         ∙ ap (λ (k : ℕ). 6 * 2 ^ k) (sym active-are)
 
 -- ---- the loop
 
 -- what is stored at place i changes no place before it
-pub steps-kept : (step : List ℕ) (w : List Float) (i d : ℕ) (t : Float) (j : ℕ) → j ≤ i → steps_at (set step i d) (set w i t) 0 j ≡ steps_at step w 0 j
-steps-kept step w i d t zero h = refl
-steps-kept step w i d t (suc j) h =
-    ap₂ (λ (c : Cell) (cs : List Cell). c ∷ cs)
-    (λ k. step_cell (get_or-set_other step i (0 + j) d 0 (λ e. omega arith) k) (get_or-set_other w i (0 + j) t nan (λ e. omega arith) k))
-    (steps-kept step w i d t j (omega arith))
+pub steps-kept : (axes : List Axis) (i : ℕ) (a : Axis) (j : ℕ) → j ≤ i → steps_at (set axes i a) 0 j ≡ steps_at axes 0 j
+steps-kept axes i a zero h = refl
+steps-kept axes i a (suc j) h =
+    ap₂ (λ (b : Axis) (cs : List Cell). cell_of b ∷ cs)
+    (get_or-set_other axes i (0 + j) a (record { step = 0; w = nan }) (λ e. omega arith))
+    (steps-kept axes i a j (omega arith))
 
--- after i of the further inks: those kept stand at the first places, and the others are as they were
-pub record Keeping (skip : Float → Bool) (step₀ : List ℕ) (w₀ : List Float) (k : ℕ) (step : List ℕ) (w : List Float) (at i : ℕ) : Type 0 where
-  pub steps : length step ≡ 16
-  pub weights : length w ≡ 16
-  pub most : i ≤ k
+-- the array at ink i: those kept of the inks before it stand at the first places, and the others are as they were
+pub record Keeping (skip : Float → Bool) (axes₀ : List Axis) (axes : List Axis) (at i : ℕ) : Type 0 where
+  pub room : length axes ≡ length axes₀
   pub some : 3 ≤ at
-  pub few : at ≤ 3 + i
-  pub standing : steps_at step w 0 at ≡ kept skip (steps_at step₀ w₀ 3 i) ++ steps_at step₀ w₀ 0 3
-  pub next-step : (j : ℕ) → i ≤ j → get_or step (3 + j) 0 ≡ get_or step₀ (3 + j) 0
-  pub next-weight : (j : ℕ) → i ≤ j → get_or w (3 + j) nan ≡ get_or w₀ (3 + j) nan
+  pub few : at ≤ i
+  pub standing : steps_at axes 0 at ≡ kept skip (steps_at axes₀ 3 (i - 3)) ++ steps_at axes₀ 0 3
+  pub next : (j : ℕ) → i ≤ j → axis axes j ≡ axis axes₀ j
 
-module _ (skip : Float → Bool) (step₀ : List ℕ) (w₀ : List Float) (k : ℕ) where
-  pub keeping_none : length step₀ ≡ 16 → length w₀ ≡ 16 → Keeping skip step₀ w₀ k step₀ w₀ 3 0
-  keeping_none s t =
+module _ (skip : Float → Bool) (axes₀ axes : List Axis) (at i : ℕ) (old : Keeping skip axes₀ axes at i) (inside : i < length axes₀) where
+  abbrev a : Axis
+  a = axis axes i
+
+  abbrev axes' : List Axis
+  axes' = set axes at a
+
+  here : axis axes' (0 + at) ≡ a
+  here = ap (axis axes') (zero-add at) ∙ get_or-set_same axes at a (record { step = 0; w = nan }) (omega (arith, old.room, old.few))
+
+  before : steps_at axes' 0 at ≡ kept skip (steps_at axes₀ 3 (i - 3)) ++ steps_at axes₀ 0 3
+  before = steps-kept axes at a at (omega arith) ∙ old.standing
+
+  -- one more ink: left out, or kept
+  stands : (b : Bool) → steps_at axes' 0 (at + cond b 0 1) ≡ cond b (kept skip (steps_at axes₀ 3 (i - 3))) (cell_of a ∷ kept skip (steps_at axes₀ 3 (i - 3))) ++ steps_at axes₀ 0 3
+  stands true = ap (steps_at axes' 0) (add-zero at) ∙ before
+  stands false = ap (steps_at axes' 0) (add-one at) ∙ ap₂ (λ (b : Axis) (cs : List Cell). cell_of b ∷ cs) here before
+
+  count : (b : Bool) → (3 ≤ at + cond b 0 1) × (at + cond b 0 1 ≤ i + 1)
+  count true = (omega (arith, old.some), omega (arith, old.few))
+  count false = (omega (arith, old.some), omega (arith, old.few))
+
+  ink : a ≡ axis axes₀ (3 + (i - 3))
+  ink = let e : i ≡ 3 + (i - 3) = omega (arith, old.some, old.few) in old.next i (omega arith) ∙ ap (axis axes₀) e
+
+  pub keeping-more : (p : ℕ) → p ≡ cond (skip a.w) 0 1 → Keeping skip axes₀ axes' (at + p) (i + 1)
+  keeping-more p is =
+      let counted = subst (λ (q : ℕ). (3 ≤ at + q) × (at + q ≤ i + 1)) (sym is) (count (skip a.w)) in
+      let next-count : suc (i - 3) ≡ i + 1 - 3 = omega (arith, old.some, old.few) in
       record {
-        steps = s;
-        weights = t;
-        most = omega arith;
-        some = omega arith;
-        few = omega arith;
-        standing = refl;
-        next-step = λ j h. refl;
-        next-weight = λ j h. refl;
+        room = simp length-set old.room;
+        some = counted.0;
+        few = counted.1;
+        standing =
+            ap (λ (q : ℕ). steps_at axes' 0 (at + q)) is
+            ∙ stands (skip a.w)
+            ∙ ap (λ (b : Axis). kept skip (cell_of b ∷ steps_at axes₀ 3 (i - 3)) ++ steps_at axes₀ 0 3) ink
+            ∙ ap (λ (n : ℕ). kept skip (steps_at axes₀ 3 n) ++ steps_at axes₀ 0 3) next-count;
+        next = λ j h. get_or-set_other axes at j a (record { step = 0; w = nan }) (λ e. omega (arith, old.few)) ∙ old.next j (omega arith);
       }
-
-  module _ (step : List ℕ) (w : List Float) (at i : ℕ) (old : Keeping skip step₀ w₀ k step w at i) (less : i < k) (room : k ≤ 12)
-      (d : ℕ) (t : Float) (step_is : d ≡ get_or step (3 + i) 0) (weight_is : t ≡ get_or w (3 + i) nan) where
-    abbrev step' : List ℕ
-    step' = set step at d
-
-    abbrev w' : List Float
-    w' = set w at t
-
-    ink : step_cell d t ≡ step_cell (get_or step₀ (3 + i) 0) (get_or w₀ (3 + i) nan)
-    ink = λ j. step_cell ((step_is ∙ old.next-step i (omega arith)) j) ((weight_is ∙ old.next-weight i (omega arith)) j)
-
-    here : step_cell (get_or step' (0 + at) 0) (get_or w' (0 + at) nan) ≡ step_cell d t
-    here =
-        ap (λ (n : ℕ). step_cell (get_or step' n 0) (get_or w' n nan)) (zero-add at)
-        ∙ (λ j. step_cell (get_or-set_same step at d 0 (omega (arith, old.steps, old.few)) j) (get_or-set_same w at t nan (omega (arith, old.weights, old.few)) j))
-
-    before : steps_at step' w' 0 at ≡ kept skip (steps_at step₀ w₀ 3 i) ++ steps_at step₀ w₀ 0 3
-    before = steps-kept step w at d t at (omega arith) ∙ old.standing
-
-    -- one more ink: left out, or kept
-    stands : (b : Bool) → steps_at step' w' 0 (at + cond b 0 1) ≡ cond b (kept skip (steps_at step₀ w₀ 3 i)) (step_cell d t ∷ kept skip (steps_at step₀ w₀ 3 i)) ++ steps_at step₀ w₀ 0 3
-    stands true = ap (steps_at step' w' 0) (add-zero at) ∙ before
-    stands false = ap (steps_at step' w' 0) (add-one at) ∙ ap₂ (λ (c : Cell) (cs : List Cell). c ∷ cs) here before
-
-    count : (b : Bool) → (3 ≤ at + cond b 0 1) × (at + cond b 0 1 ≤ 3 + (i + 1))
-    count true = (omega (arith, old.some), omega (arith, old.few))
-    count false = (omega (arith, old.some), omega (arith, old.few))
-
-    pub keeping-more : (p : ℕ) → p ≡ cond (skip t) 0 1 → Keeping skip step₀ w₀ k step' w' (at + p) (i + 1)
-    keeping-more p is =
-        let counted = subst (λ (q : ℕ). (3 ≤ at + q) × (at + q ≤ 3 + (i + 1))) (sym is) (count (skip t)) in
-        record {
-          steps = simp length-set old.steps;
-          weights = simp length-set old.weights;
-          most = omega arith;
-          some = counted.0;
-          few = counted.1;
-          standing =
-              ap (λ (q : ℕ). steps_at step' w' 0 (at + q)) is
-              ∙ stands (skip t)
-              ∙ ap (λ (c : Cell). kept skip (c ∷ steps_at step₀ w₀ 3 i) ++ steps_at step₀ w₀ 0 3) ink
-              ∙ ap (λ (n : ℕ). kept skip (steps_at step₀ w₀ 3 n) ++ steps_at step₀ w₀ 0 3) (sym (add-one i));
-          next-step = λ j h. get_or-set_other step at (3 + j) d 0 (λ e. omega (arith, old.few)) ∙ old.next-step j (omega arith);
-          next-weight = λ j h. get_or-set_other w at (3 + j) t nan (λ e. omega (arith, old.few)) ∙ old.next-weight j (omega arith);
-        }
 
 -- with nothing to be skipped all inks are kept
 kept-all : (hs : List Cell) → kept never hs ≡ hs
 kept-all [] = refl
 kept-all (h ∷ hs) = ap (λ (cs : List Cell). h ∷ cs) (kept-all hs)
 
-pub never-kept : (step : List ℕ) (w : List Float) (n : ℕ) → 3 ≤ n → steps_at step w 0 n ≡ kept_at never step w n
-never-kept step w n some = three-first step w n some ∙ ap (λ (cs : List Cell). cs ++ steps_at step w 0 3) (sym (kept-all (steps_at step w 3 (n - 3))))
+pub never-kept : (axes : List Axis) (n : ℕ) → 3 ≤ n → steps_at axes 0 n ≡ kept_at never axes n
+never-kept axes n some = three-first axes n some ∙ ap (λ (cs : List Cell). cs ++ steps_at axes 0 3) (sym (kept-all (steps_at axes 3 (n - 3))))
 
 -- ---- ink 4 alone above three
 

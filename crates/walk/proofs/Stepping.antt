@@ -12,16 +12,17 @@ use lib.Seq.{get_or-drop, get_or-set_same}
 use Rattle.binary32.specs.Blend.{along, square, tetra, lerp}
 use Rattle.lists.specs.Lists.{some}
 use Rattle.cell.specs.declared.Cell.{Cell}
-use Rattle.cell.proofs.Said.{tells-value, tells_none}
+use Rattle.cell.proofs.Said.{tells-value}
 use Rattle.lookup.specs.Lookup.{Grid, node, lookup_with}
 use Rattle.lookup.specs.Places.{sum, reach, answer_by, placed_ink, first_inks, NoNans}
 use Rattle.lookup.specs.Idle.{weights_of}
 use Rattle.lookup.proofs.Part.{from-drop}
 use Rattle.walk.proofs.Kept.{steps-kept}
 use Rattle.walk.proofs.Reading.{Proper, reach-grows}
+use Rattle.walk.specs.declared.Axis.{Axis}
 use Rattle.walk.specs.declared.Lowest.{Lowest}
 use Rattle.walk.specs.declared.Lowest.TheVariants as lowest
-use Rattle.walk.specs.Steps.{step_cell, steps_at, stepped, lows, lowest_of}
+use Rattle.walk.specs.Steps.{axis, cell_of, step_cell, steps_at, stepped, lows, lowest_of}
 
 node-step : (c : Cell) (b : Bool) → c.x ≤ c.x_n → node c b ≡ c.x + node (step_cell (c.x_n - c.x) c.w) b
 node-step c true h = omega arith
@@ -100,44 +101,35 @@ pub lows-reach : (filling sizes : List ℕ) (xs : List Float) (n : ℕ) → lows
 lows-reach filling sizes xs zero = omega arith
 lows-reach filling sizes xs (suc n) = omega (arith, lows-reach filling sizes xs n)
 
+-- an ink by its step
+abbrev pub axis_of : Cell → Axis
+axis_of c = record { step = c.x_n - c.x; w = c.w }
+
 -- after i inks
-pub record Stepping (filling sizes : List ℕ) (xs : List Float) (step : List ℕ) (w : List Float) (at i : ℕ) : Type 0 where
-  pub steps : length step ≡ 16
-  pub weights : length w ≡ 16
-  pub most : i ≤ length xs
+pub record Stepping (filling sizes : List ℕ) (xs : List Float) (axes : List Axis) (at i : ℕ) : Type 0 where
+  pub room : length axes ≡ 16
   pub numbers : NoNans xs i
   pub base : at ≡ lows (first_inks filling sizes xs i)
-  pub standing : steps_at step w 0 i ≡ stepped (first_inks filling sizes xs i)
+  pub standing : steps_at axes 0 i ≡ stepped (first_inks filling sizes xs i)
 
-module _ (filling sizes : List ℕ) (xs : List Float) (step : List ℕ) (w : List Float) where
-  pub stepping-none : length step ≡ 16 → length w ≡ 16 → Stepping filling sizes xs step w 0 0
-  stepping-none s t = record { steps = s; weights = t; most = omega arith; numbers = λ j h. absurd (omega arith); base = refl; standing = refl }
-
-  pub stepping-more : (at i : ℕ) (c : Cell) → i < length xs → length xs ≤ 15 → c ≡ placed_ink filling sizes xs i → NoNans xs (i + 1) → Stepping filling sizes xs step w at i
-      → Stepping filling sizes xs (set step i (c.x_n - c.x)) (set w i c.w) (at + c.x) (i + 1)
-  stepping-more at i c less few is numbers old =
+module _ (filling sizes : List ℕ) (xs : List Float) (axes : List Axis) where
+  pub stepping-more : (at i : ℕ) (c : Cell) → i < length axes → c ≡ placed_ink filling sizes xs i → NoNans xs (i + 1) → Stepping filling sizes xs axes at i
+      → Stepping filling sizes xs (set axes i (axis_of c)) (at + c.x) (i + 1)
+  stepping-more at i c inside is numbers old =
       record {
-        steps = simp length-set old.steps;
-        weights = simp length-set old.weights;
-        most = omega arith;
+        room = simp length-set old.room;
         numbers = numbers;
         base = rw (add-one i) (sum-turned old.base (ap (λ (q : Cell). q.x) is));
-        standing =
-            rw (add-one i) (ap₂ (λ (q : Cell) (cs : List Cell). q ∷ cs) (here ∙ ap (λ (q : Cell). step_cell (q.x_n - q.x) q.w) is) (steps-kept step w i (c.x_n - c.x) c.w i (omega arith) ∙ old.standing));
+        standing = rw (add-one i) (ap₂ (λ (q : Cell) (cs : List Cell). q ∷ cs) (ap cell_of here ∙ ap (λ (q : Cell). step_cell (q.x_n - q.x) q.w) is) (steps-kept axes i (axis_of c) i (omega arith) ∙ old.standing));
       }
     where
       sum-turned : {a l y z : ℕ} → a ≡ l → y ≡ z → a + y ≡ z + l
       sum-turned e f = omega arith
 
-      zeroth : 0 + i ≡ i
-      zeroth = zero-add i
+      here : axis (set axes i (axis_of c)) (0 + i) ≡ axis_of c
+      here = ap (axis (set axes i (axis_of c))) (zero-add i) ∙ get_or-set_same axes i (axis_of c) (record { step = 0; w = nan }) inside
 
-      here : step_cell (get_or (set step i (c.x_n - c.x)) (0 + i) 0) (get_or (set w i c.w) (0 + i) nan) ≡ step_cell (c.x_n - c.x) c.w
-      here =
-          ap (λ (n : ℕ). step_cell (get_or (set step i (c.x_n - c.x)) n 0) (get_or (set w i c.w) n nan)) zeroth
-          ∙ (λ d. step_cell (get_or-set_same step i (c.x_n - c.x) 0 (omega (arith, old.steps)) d) (get_or-set_same w i c.w nan (omega (arith, old.weights)) d))
-
-  pub base-fits : (at i : ℕ) (c : Cell) → i < length xs → c ≡ placed_ink filling sizes xs i → Stepping filling sizes xs step w at i
+  pub base-fits : (at i : ℕ) (c : Cell) → i < length xs → c ≡ placed_ink filling sizes xs i → Stepping filling sizes xs axes at i
       → reach (first_inks filling sizes xs (length xs)) < 18446744073709551616 → at + c.x < 18446744073709551616
   base-fits at i c less is old fits =
       let x = ap (λ (q : Cell). q.x) is in
@@ -163,6 +155,3 @@ module _ (xs : List Float) (l : ℕ) where
   module _ (r : Lowest) (said : r ≡ lowest_of xs l) where
     pub told_at : (a : ℕ) → r ≡ lowest.At a → (some is_nan xs ≡ false) × (a ≡ l)
     told_at a e = tells-value lowest.NotANumber lowest.At (λ v w p. ap at_in p) (λ v p. true≢false (ap is_at p)) (some is_nan xs) a l (sym e ∙ said)
-
-    pub told-nan : r ≡ lowest.NotANumber → some is_nan xs ≡ true
-    told-nan e = tells_none lowest.NotANumber lowest.At (λ v w p. ap at_in p) (λ v p. true≢false (ap is_at p)) (some is_nan xs) l (sym e ∙ said)

@@ -7,7 +7,7 @@ use mathlib.Core.Path.{◌≡◌, refl, ap, ap₂, sym, subst, ◌∙◌}
 use mathlib.Core.Bool.{Bool, true, false}
 use mathlib.Core.List.{List, [], ◌∷◌, ◌++◌}
 use lib.Dec.{eqb}
-use lib.Ieee.{Float, nan}
+use lib.Ieee.{Float}
 use lib.ListN.{length, get_or, set, length-set}
 use Rattle.lists.specs.Buffer.{written_from}
 use Rattle.lists.proofs.Buffer.{length-written-from, written-from-next}
@@ -15,32 +15,33 @@ use Rattle.cell.specs.declared.Cell.{Cell}
 use Rattle.lookup.specs.Lookup.{node}
 use Rattle.lookup.specs.Places.{reach}
 use Rattle.walk.proofs.Above.{reach-over}
-use Rattle.walk.specs.Steps.{step_cell, steps_at}
-use Rattle.walk.specs.Walk.{distance, weights, weights_at, Distant}
+use Rattle.walk.specs.declared.Axis.{Axis}
+use Rattle.walk.specs.Steps.{step_cell, axis, cell_of, steps_at}
+use Rattle.walk.specs.Walk.{distance, weights, weights_at}
 use Rattle.walk.proofs.Blocks.{written-from-at, written-from-before}
 
-module _ (step : List ℕ) (w : List Float) where
+module _ (axes : List Axis) where
   -- the first a of the inks, and those after them
-  pub split : (first a k : ℕ) → steps_at step w first (k + a) ≡ steps_at step w (first + a) k ++ steps_at step w first a
-  split first a zero = ap (steps_at step w first) (zero-add a)
+  pub split : (first a k : ℕ) → steps_at axes first (k + a) ≡ steps_at axes (first + a) k ++ steps_at axes first a
+  split first a zero = ap (steps_at axes first) (zero-add a)
   split first a (suc k) =
-      ap (steps_at step w first) (suc-add k a)
-      ∙ ap₂ (λ (i : ℕ) (cs : List Cell). step_cell (get_or step i 0) (get_or w i nan) ∷ cs) (place first a k) (split first a k)
+      ap (steps_at axes first) (suc-add k a)
+      ∙ ap₂ (λ (i : ℕ) (cs : List Cell). cell_of (axis axes i) ∷ cs) (place first a k) (split first a k)
     where
       place : (f b j : ℕ) → f + (j + b) ≡ f + b + j
       place f b j = omega arith
 
   -- the first ink alone
-  pub front : (first k : ℕ) → steps_at step w first (suc k) ≡ steps_at step w (suc first) k ++ (step_cell (get_or step first 0) (get_or w first nan) ∷ [])
+  pub front : (first k : ℕ) → steps_at axes first (suc k) ≡ steps_at axes (suc first) k ++ (cell_of (axis axes first) ∷ [])
   front first k =
-      ap (steps_at step w first) (one k)
+      ap (steps_at axes first) (one k)
       ∙ split first 1 k
-      ∙ ap₂ (λ (f i : ℕ). steps_at step w f k ++ (step_cell (get_or step i 0) (get_or w i nan) ∷ [])) (sym (one first)) (add-zero first)
+      ∙ ap₂ (λ (f i : ℕ). steps_at axes f k ++ (cell_of (axis axes i) ∷ [])) (sym (one first)) (add-zero first)
     where
       one : (n : ℕ) → suc n ≡ n + 1
       one n = omega arith
 
-  pub length-steps : (first k : ℕ) → length (steps_at step w first k) ≡ k
+  pub length-steps : (first k : ℕ) → length (steps_at axes first k) ≡ k
   length-steps first zero = refl
   length-steps first (suc k) = ap suc (length-steps first k)
 
@@ -48,12 +49,12 @@ weights-front : (hs : List Cell) (h : Cell) → weights (hs ++ (h ∷ [])) ≡ h
 weights-front [] h = refl
 weights-front (g ∷ hs) h = ap (λ (l : List Float). l ++ (g.w ∷ [])) (weights-front hs h)
 
-pub weights-at : (step : List ℕ) (w : List Float) (first k : ℕ) → weights (steps_at step w first k) ≡ weights_at w first k
-weights-at step w first zero = refl
-weights-at step w first (suc k) =
-    ap weights (front step w first k)
-    ∙ weights-front (steps_at step w (suc first) k) (step_cell (get_or step first 0) (get_or w first nan))
-    ∙ ap (λ (l : List Float). get_or w first nan ∷ l) (weights-at step w (suc first) k)
+pub weights-at : (axes : List Axis) (first k : ℕ) → weights (steps_at axes first k) ≡ weights_at axes first k
+weights-at axes first zero = refl
+weights-at axes first (suc k) =
+    ap weights (front axes first k)
+    ∙ weights-front (steps_at axes (suc first) k) (cell_of (axis axes first))
+    ∙ ap (λ (l : List Float). (axis axes first).w ∷ l) (weights-at axes (suc first) k)
 
 -- ---- distances
 
@@ -64,19 +65,6 @@ node-reach c false = omega arith
 pub distance-reach : (hs : List Cell) (c : ℕ) → distance hs c ≤ reach hs
 distance-reach [] c = omega arith
 distance-reach (h ∷ hs) c = omega (arith, node-reach h (eqb (c % 2) 1), distance-reach hs (c / 2))
-
--- the weights do not matter
-node-any : (d : ℕ) (t t' : Float) (b : Bool) → node (step_cell d t) b ≡ node (step_cell d t') b
-node-any d t t' true = refl
-node-any d t t' false = refl
-
-pub distance-any : (step : List ℕ) (w w' : List Float) (first k c : ℕ) → distance (steps_at step w first k) c ≡ distance (steps_at step w' first k) c
-distance-any step w w' first zero c = refl
-distance-any step w w' first (suc k) c = ap₂ (λ (a b : ℕ). a + b) (node-any (get_or step (first + k) 0) (get_or w (first + k) nan) (get_or w' (first + k) nan) (eqb (c % 2) 1)) (distance-any step w w' first k (c / 2))
-
-pub reach-any : (step : List ℕ) (w w' : List Float) (first k : ℕ) → reach (steps_at step w first k) ≡ reach (steps_at step w' first k)
-reach-any step w w' first zero = refl
-reach-any step w w' first (suc k) = ap (λ (r : ℕ). max 0 (get_or step (first + k) 0) + r) (reach-any step w w' first k)
 
 halved-less : (c n : ℕ) → c < 2 ^ suc n → c / 2 < 2 ^ n
 halved-less c n h = let e = pow-suc 2 n in omega (arith, e)
@@ -105,18 +93,22 @@ module _ (d : ℕ) (t : Float) where
 
 -- ---- the loop over the inks, the last one first
 
-pub record Placed (step : List ℕ) (first k : ℕ) (old now : List ℕ) (count i : ℕ) : Type 0 where
+pub record Placed (axes : List Axis) (first k : ℕ) (old now : List ℕ) (count i : ℕ) : Type 0 where
   pub most : i ≤ k
   pub sized : count ≡ 2 ^ (k - i)
-  pub distant : Distant (steps_at step [] (first + i) (k - i)) count old now
+  pub room : length now ≡ length old
+  pub stand : (c : ℕ) → c < count → get_or now c 0 ≡ distance (steps_at axes (first + i) (k - i)) c
 
-module _ (step : List ℕ) (first k : ℕ) (old : List ℕ) where
-  module _ (now : List ℕ) (count i : ℕ) (placed : Placed step first k old now count i) (some : 0 < i) where
+module _ (axes : List Axis) (first k : ℕ) (old : List ℕ) where
+  module _ (now : List ℕ) (count i : ℕ) (placed : Placed axes first k old now count i) (some : 0 < i) where
     abbrev d : ℕ
-    d = get_or step (first + (i - 1)) 0
+    d = (axis axes (first + (i - 1))).step
+
+    abbrev t : Float
+    t = (axis axes (first + (i - 1))).w
 
     abbrev hs : List Cell
-    hs = steps_at step [] (first + i) (k - i)
+    hs = steps_at axes (first + i) (k - i)
 
     next-count : k - (i - 1) ≡ suc (k - i)
     next-count = omega (arith, placed.most)
@@ -125,25 +117,25 @@ module _ (step : List ℕ) (first k : ℕ) (old : List ℕ) where
     one_on = omega arith
 
     -- with the ink in front
-    more : steps_at step [] (first + (i - 1)) (k - (i - 1)) ≡ hs ++ (step_cell d nan ∷ [])
+    more : steps_at axes (first + (i - 1)) (k - (i - 1)) ≡ hs ++ (step_cell d t ∷ [])
     more =
-        ap (steps_at step [] (first + (i - 1))) next-count
-        ∙ front step [] (first + (i - 1)) (k - i)
-        ∙ ap (λ (f : ℕ). steps_at step [] f (k - i) ++ (step_cell d nan ∷ [])) one_on
+        ap (steps_at axes (first + (i - 1))) next-count
+        ∙ front axes (first + (i - 1)) (k - i)
+        ∙ ap (λ (f : ℕ). steps_at axes f (k - i) ++ (step_cell d t ∷ [])) one_on
 
     count-is : count ≡ 2 ^ length hs
-    count-is = placed.sized ∙ ap (λ (n : ℕ). 2 ^ n) (sym (length-steps step [] (first + i) (k - i)))
+    count-is = placed.sized ∙ ap (λ (n : ℕ). 2 ^ n) (sym (length-steps axes (first + i) (k - i)))
 
     -- the inks before it reach no less
-    whole : reach hs + d ≤ reach (steps_at step [] first k)
+    whole : reach hs + d ≤ reach (steps_at axes first k)
     whole =
         let cut : k ≡ k - (i - 1) + (i - 1) = omega (arith, placed.most) in
-        let all = ap (λ (n : ℕ). reach (steps_at step [] first n)) cut ∙ ap reach (split step [] first (i - 1) (k - (i - 1))) ∙ reach-over (steps_at step [] (first + (i - 1)) (k - (i - 1))) (steps_at step [] first (i - 1)) in
-        let these = ap reach more ∙ reach-over hs (step_cell d nan ∷ []) in
+        let all = ap (λ (n : ℕ). reach (steps_at axes first n)) cut ∙ ap reach (split axes first (i - 1) (k - (i - 1))) ∙ reach-over (steps_at axes (first + (i - 1)) (k - (i - 1))) (steps_at axes first (i - 1)) in
+        let these = ap reach more ∙ reach-over hs (step_cell d t ∷ []) in
         omega (arith, all, these)
 
-    pub sums-fit : reach (steps_at step [] first k) < 18446744073709551616 → (c : ℕ) → c < count → get_or now c 0 + d < 18446744073709551616
-    sums-fit fits c h = omega (arith, whole, placed.distant.stand c h, distance-reach hs c)
+    pub sums-fit : reach (steps_at axes first k) < 18446744073709551616 → (c : ℕ) → c < count → get_or now c 0 + d < 18446744073709551616
+    sums-fit fits c h = omega (arith, whole, placed.stand c h, distance-reach hs c)
 
     twice : count + count ≡ 2 ^ (k - (i - 1))
     twice = let p = pow-suc 2 (k - i) in let e = ap (λ (n : ℕ). 2 ^ n) next-count in omega (arith, p, e, placed.sized)
@@ -157,42 +149,40 @@ module _ (step : List ℕ) (first k : ℕ) (old : List ℕ) where
     pub room_for : 2 ^ k ≤ length old → count + count ≤ length now
     room_for fit =
         let most : 2 ^ (k - (i - 1)) ≤ 2 ^ k = pow-le-pow_right (zero-lt-suc 1) (omega arith) in
-        omega (arith, most, twice, placed.distant.room)
+        omega (arith, most, twice, placed.room)
 
-    pub placed-more : 2 ^ k ≤ length old → (next : List ℕ) → next ≡ written_from count (λ c. get_or now c 0 + d) count now → Placed step first k old next (count * 2) (i - 1)
+    pub placed-more : 2 ^ k ≤ length old → (next : List ℕ) → next ≡ written_from count (λ c. get_or now c 0 + d) count now → Placed axes first k old next (count * 2) (i - 1)
     placed-more fit next is =
         record {
           most = omega (arith, placed.most);
           sized = doubled ∙ twice;
-          distant = record {
-            room = ap length is ∙ length-written-from count _ count now ∙ placed.distant.room;
-            stand = λ c h.
-                elim (dec_lt c count) [
-                  | yes low ↦ below c low ∙ ap (λ (l : List Cell). distance l c) (sym more)
-                  | no high ↦
-                      let e : c ≡ count + (c - count) = omega arith in
-                      ap (λ (j : ℕ). get_or next j 0) e ∙ beyond (c - count) (omega (arith, doubled)) ∙ ap₂ (λ (l : List Cell) (j : ℕ). distance l j) (sym more) (sym e)
-                ];
-          };
+          room = ap length is ∙ length-written-from count _ count now ∙ placed.room;
+          stand = λ c h.
+              elim (dec_lt c count) [
+                | yes low ↦ below c low ∙ ap (λ (l : List Cell). distance l c) (sym more)
+                | no high ↦
+                    let e : c ≡ count + (c - count) = omega arith in
+                    ap (λ (j : ℕ). get_or next j 0) e ∙ beyond (c - count) (omega (arith, doubled)) ∙ ap₂ (λ (l : List Cell) (j : ℕ). distance l j) (sym more) (sym e)
+              ];
         }
       where
         doubled : count * 2 ≡ count + count
         doubled = omega arith
 
-        below : (c : ℕ) → c < count → get_or next c 0 ≡ distance (hs ++ (step_cell d nan ∷ [])) c
+        below : (c : ℕ) → c < count → get_or next c 0 ≡ distance (hs ++ (step_cell d t ∷ [])) c
         below c h =
             ap (λ (l : List ℕ). get_or l c 0) is
             ∙ written-from-before count (λ e. get_or now e 0 + d) count now c 0 h
-            ∙ placed.distant.stand c h
-            ∙ sym (distance-low d nan hs c (subst (λ (n : ℕ). c < n) count-is h))
+            ∙ placed.stand c h
+            ∙ sym (distance-low d t hs c (subst (λ (n : ℕ). c < n) count-is h))
 
-        beyond : (c : ℕ) → c < count → get_or next (count + c) 0 ≡ distance (hs ++ (step_cell d nan ∷ [])) (count + c)
+        beyond : (c : ℕ) → c < count → get_or next (count + c) 0 ≡ distance (hs ++ (step_cell d t ∷ [])) (count + c)
         beyond c h =
             ap (λ (l : List ℕ). get_or l (count + c) 0) is
             ∙ written-from-at count (λ e. get_or now e 0 + d) count now c 0 h (room_for fit)
-            ∙ ap (λ (n : ℕ). n + d) (placed.distant.stand c h)
-            ∙ sym (distance_high d nan hs c (subst (λ (n : ℕ). c < n) count-is h))
-            ∙ ap (λ (n : ℕ). distance (hs ++ (step_cell d nan ∷ [])) (n + c)) (sym count-is)
+            ∙ ap (λ (n : ℕ). n + d) (placed.stand c h)
+            ∙ sym (distance_high d t hs c (subst (λ (n : ℕ). c < n) count-is h))
+            ∙ ap (λ (n : ℕ). distance (hs ++ (step_cell d t ∷ [])) (n + c)) (sym count-is)
 
 -- ---- the loop over the corners of one ink
 

@@ -5,6 +5,7 @@ use Rattle.cell.specs.declared.Cell.{Cell}
 use Rattle.lookup.specs.Lookup.{never, idle}
 use Rattle.lookup.specs.Table.{cells}
 use Rattle.lookup.specs.Idle.{reads, weights_of}
+use Rattle.walk.specs.declared.Axis.{Axis}
 use Rattle.walk.specs.declared.Counted.{Counted}
 use Rattle.walk.specs.Steps.{steps_at}
 
@@ -18,8 +19,8 @@ kept skip [] = []
 kept skip (h ∷ hs) = cond (skip h.w) (kept skip hs) (h ∷ kept skip hs)
 
 -- of n inks in arrays, the first three and those that are kept of the others
-abbrev pub kept_at : (Float → Bool) → List ℕ → List Float → ℕ → List Cell
-kept_at skip step w n = kept skip (steps_at step w 3 (n - 3)) ++ steps_at step w 0 3
+abbrev pub kept_at : (Float → Bool) → List Axis → ℕ → List Cell
+kept_at skip axes n = kept skip (steps_at axes 3 (n - 3)) ++ steps_at axes 0 3
 
 -- the reads in a table of the sizes gs, last ink first
 abbrev pub reads_in : (Float → Bool) → List ℕ → List Float → ℕ

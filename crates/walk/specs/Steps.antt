@@ -8,6 +8,7 @@ use Rattle.binary32.specs.Range.{Below}
 use Rattle.lists.specs.Lists.{some}
 use Rattle.cell.specs.declared.Cell.{Cell}
 use Rattle.lookup.specs.Places.{first_inks}
+use Rattle.walk.specs.declared.Axis.{Axis}
 use Rattle.walk.specs.declared.Plan.{Plan}
 use Rattle.walk.specs.declared.Lowest.{Lowest}
 use Rattle.walk.specs.Blocks.{at}
@@ -20,10 +21,17 @@ all_inks filling sizes xs = first_inks filling sizes xs (length xs)
 abbrev pub step_cell : ℕ → Float → Cell
 step_cell d t = record { x = 0; x_n = d; w = t }
 
+-- ink i of an array, counted from 0, and its cell
+abbrev pub axis : List Axis → ℕ → Axis
+axis axes i = get_or axes i (record { step = 0; w = nan })
+
+abbrev pub cell_of : Axis → Cell
+cell_of a = step_cell a.step a.w
+
 -- k inks from `first` on, counted from 0, last ink first
-abbrev pub steps_at : List ℕ → List Float → ℕ → ℕ → List Cell
-steps_at step w first zero = []
-steps_at step w first (suc k) = step_cell (get_or step (first + k) 0) (get_or w (first + k) nan) ∷ steps_at step w first k
+abbrev pub steps_at : List Axis → ℕ → ℕ → List Cell
+steps_at axes first zero = []
+steps_at axes first (suc k) = cell_of (axis axes (first + k)) ∷ steps_at axes first k
 
 -- cells by their steps, and how far their lower nodes stand together
 abbrev pub stepped : List Cell → List Cell
@@ -39,8 +47,8 @@ abbrev pub lowest_of : List Float → ℕ → Lowest
 lowest_of xs at = cond (some is_nan xs) Lowest.NotANumber (Lowest.At at)
 
 -- each weight is from 0 up and below 1
-abbrev pub Weighed : List Float → ℕ → Type 0
-Weighed w n = (i : ℕ) → i < n → Below 1 (get_or w i nan)
+abbrev pub Weighed : List Axis → ℕ → Type 0
+Weighed axes n = (i : ℕ) → i < n → Below 1 (axis axes i).w
 
 -- ---- three inks
 
@@ -69,8 +77,8 @@ plan_for dx dy dz rx ry rz =
       rz = rz;
     }
 
-abbrev pub first_three : List ℕ → List Float → Plan
-first_three step w = plan_for (get_or step 0 0) (get_or step 1 0) (get_or step 2 0) (get_or w 0 nan) (get_or w 1 nan) (get_or w 2 nan)
+abbrev pub first_three : List Axis → Plan
+first_three axes = plan_for (axis axes 0).step (axis axes 1).step (axis axes 2).step (axis axes 0).w (axis axes 1).w (axis axes 2).w
 
 -- what a plan gives at output o of the part from the lowest corner on
 abbrev pub tetra_of : Plan → ℕ → List Float → Float

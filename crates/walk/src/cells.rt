@@ -8,7 +8,7 @@ ghost use Rattle.lookup.specs.Places.{placed_ink, reach, Narrow};
 ghost use Rattle.walk.specs.Steps.{all_inks, steps_at, stepped, lows, lowest_of};
 ghost use Rattle.walk.specs.Kept.{skip_of, kept_at};
 
-use crate::Lowest;
+use crate::{Axis, Lowest};
 use cell::Found;
 
 // The cell of ink i, counted from 0, with its nodes as distances in entries, or that its input is NaN.
@@ -25,30 +25,27 @@ pub(crate) fn cells(
     filling: &[u32; 16],
     sizes: &[u8; 16],
     inputs: &[f32],
-    step: &mut [usize; 16],
-    w: &mut [f32; 16],
+    axes: &mut [Axis; 16],
 ) -> Lowest
     requires inputs_len_bound { length inputs.now ≤ 15 }
     requires narrow { Narrow filling.now sizes.now (length inputs.now) }
     requires inputs_bound { reach (all_inks filling.now sizes.now inputs.now) < 18446744073709551616 }
-    requires step_len { (length step.old ≡ 16) × (length w.old ≡ 16) }
     ensures value { result ≡ lowest_of inputs.now (lows (all_inks filling.now sizes.now inputs.now)) }
     ensures steps { some is_nan inputs.now ≡ false
-        → steps_at step.new w.new 0 (length inputs.now)
+        → steps_at axes.new 0 (length inputs.now)
         ≡ stepped (all_inks filling.now sizes.now inputs.now) }
-    ensures room { (length step.new ≡ 16) × (length w.new ≡ 16) }
 {
     let mut at: usize = 0;
-    let mut i = 0;
-    while i < inputs.len() {
+    for i in 0..inputs.len() {
         let of = ink(filling, sizes, inputs, i);
         let Found::At(c) = of else {
             return Lowest::NotANumber;
         };
         at += c.x;
-        step[i] = c.x_n - c.x;
-        w[i] = c.w;
-        i += 1;
+        axes[i] = Axis {
+            step: c.x_n - c.x,
+            w: c.w,
+        };
     }
     Lowest::At(at)
 }
@@ -65,23 +62,19 @@ pub(crate) fn places(w: f32, skipping: bool) -> usize
 
 // Where skipping is asked for, the inks from the fourth on with a weight other than 0 move up, so that no other is among the first.
 // Answers how many inks there are then. (Each is stored, and the place is taken or not: no branch to be guessed.)
-pub(crate) fn keep(step: &mut [usize; 16], w: &mut [f32; 16], n: usize, skipping: bool) -> usize
-    requires { (3 ≤ n) × (n ≤ 15) × (length step.old ≡ 16) × (length w.old ≡ 16) }
-    ensures result_after { steps_at step.new w.new 0 result ≡ kept_at (skip_of skipping) step.old w.old n }
+pub(crate) fn keep(axes: &mut [Axis; 16], n: usize, skipping: bool) -> usize
+    requires { (3 ≤ n) × (n ≤ 15) }
+    ensures result_after { steps_at axes.new 0 result ≡ kept_at (skip_of skipping) axes.old n }
     ensures some { (3 ≤ result) × (result ≤ n) }
 {
     if !skipping {
         return n;
     }
-    let k = n - 3;
     let mut at: usize = 3;
-    let mut i: usize = 0;
-    while i < k {
-        let t = w[3 + i];
-        step[at] = step[3 + i];
-        w[at] = t;
-        at += places(t, true);
-        i += 1;
+    for i in 3..n {
+        let ink = axes[i];
+        axes[at] = ink;
+        at += places(ink.w, true);
     }
     at
 }

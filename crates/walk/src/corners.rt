@@ -2,10 +2,10 @@
 ghost use Rattle.std.specs.Prelude.{◌≡◌, [], ℕ, ◌+◌, ◌*◌, ◌^◌, ◌≤◌, ◌<◌, length, get_or};
 ghost use Rattle.lists.specs.Buffer.{written_from};
 ghost use Rattle.lookup.specs.Places.{reach};
-ghost use Rattle.walk.specs.Steps.{steps_at, tetra_of, first_three};
+ghost use Rattle.walk.specs.Steps.{axis, steps_at, tetra_of, first_three};
 ghost use Rattle.walk.specs.Walk.{Distant, Cornered};
 
-use crate::{lanes, tetra};
+use crate::{Axis, lanes, tetra};
 
 // As many distances again, each by d larger.
 fn double(offs: &mut [usize], count: usize, d: usize)
@@ -18,43 +18,36 @@ fn double(offs: &mut [usize], count: usize, d: usize)
     }
 }
 
-// The distances of the corners of k inks from `first` on, the first of them the highest bit of a corner's number. Answers
-// how many corners there are.
-pub(crate) fn distances(step: &[usize; 16], first: usize, k: usize, offs: &mut [usize]) -> usize
+// The distances of the corners of k inks from `first` on, the first of them the highest bit of a corner's number.
+pub(crate) fn distances<'a>(
+    axes: &[Axis; 16],
+    first: usize,
+    k: usize,
+    offs: &'a mut [usize],
+) -> &'a [usize]
     requires k_bound { (first + k ≤ 16) × (2 ^ k ≤ length offs.old) }
-    requires k_bound_2 { reach (steps_at step.now [] first k) < 18446744073709551616 }
-    ensures value { result ≡ 2 ^ k }
-    ensures stand { Distant (steps_at step.now [] first k) (2 ^ k) offs.old offs.new }
+    requires k_bound_2 { reach (steps_at axes.now first k) < 18446744073709551616 }
+    ensures { Distant (steps_at axes.now first k) k result.now }
 {
     offs[0] = 0;
     let mut count: usize = 1;
     for i in (0..k).rev() {
-        double(offs, count, step[first + i]);
+        double(offs, count, axes[first + i].step);
         count *= 2;
     }
-    count
+    &offs[..count]
 }
 
 // The blocks of three inks at all corners: that of corner c stands in work from 4 c on.
-pub(crate) fn corners(
-    t: &[f32],
-    step: &[usize; 16],
-    w: &[f32; 16],
-    left: usize,
-    offs: &[usize],
-    count: usize,
-    work: &mut [f32],
-)
-    requires count_in_bounds { (count ≤ length offs.now) × (count * 4 ≤ length work.old) }
-    requires step_bound { get_or step.now 0 0 + get_or step.now 1 0 + get_or step.now 2 0 < 18446744073709551616 }
-    requires by_index { (c : ℕ) → c < count
-        → get_or offs.now c 0 + (get_or step.now 0 0 + get_or step.now 1 0 + get_or step.now 2 0) + left ≤ length t.now }
-    ensures { Cornered (tetra_of (first_three step.now w.now)) offs.now t.now left count
-        work.old work.new }
+pub(crate) fn corners(t: &[f32], axes: &[Axis; 16], left: usize, offs: &[usize], work: &mut [f32])
+    requires offs_in_bounds { length offs.now * 4 ≤ length work.old }
+    requires step_bound { (axis axes.now 0).step + (axis axes.now 1).step + (axis axes.now 2).step < 18446744073709551616 }
+    requires by_index { (c : ℕ) → c < length offs.now
+        → get_or offs.now c 0 + ((axis axes.now 0).step + (axis axes.now 1).step + (axis axes.now 2).step) + left ≤ length t.now }
+    ensures { Cornered (tetra_of (first_three axes.now)) offs.now t.now left (length offs.now) work.old work.new }
 {
-    let p = tetra::first_three(step, w);
-    for c in 0..count {
-        let x = offs[c];
-        lanes::put(work, c * 4, tetra::block(&t[x..], p, step, w, left));
+    let p = tetra::first_three(axes);
+    for (c, x) in offs.iter().enumerate() {
+        lanes::put(work, c * 4, tetra::block(&t[*x..], p, axes, left));
     }
 }

@@ -55,7 +55,9 @@ fn two(part: &[f32], c: Cell, d: Cell, m: usize, out: &mut [f32])
     lanes::give(below.with(above, along_d), 0, m, out);
 }
 
-// Three inks, in the part that starts at the lowest corner.
+// Three inks, in the part that starts at the lowest corner. Inlined at both calls: a lookup of three inks then costs no call
+// within.
+#[inline(always)]
 fn three(t: &[f32], p: Plan, m: usize, out: &mut [f32])
     requires near { Near p × (p.far + m ≤ length t.now) }
     requires room { m ≤ length out.old }

@@ -30,6 +30,13 @@ pub struct Four {
     pub d: f32,
 }
 
+// An ink from a part's start on: how far its upper node stands, in entries, and its weight.
+#[derive(Clone, Copy)]
+pub struct Axis {
+    pub step: usize,
+    pub w: f32,
+}
+
 // The tetrahedron of three inks: where its entries stand, counted from the lowest corner, q before and p after an ink's
 // step; far: the farthest. And the weights.
 #[derive(Clone, Copy)]

@@ -4,123 +4,108 @@ ghost use Rattle.lists.specs.Lists.{last_first, product};
 ghost use Rattle.lookup.specs.Places.{answer, reach, Promised, SettledWith};
 ghost use Rattle.walk.specs.Blocks.{Holds, Gives};
 ghost use Rattle.walk.specs.Steps.{steps_at, Weighed};
-ghost use Rattle.walk.specs.Walk.{above, blended, distance};
+ghost use Rattle.walk.specs.Walk.{above, blended, Distant};
 ghost use Rattle.walk.specs.Kept.{skip_of, reads_in, Counts};
 
-use crate::{Counted, Four, Lowest, cells, corners, count, fold, lanes};
+use crate::{Axis, Counted, Four, Lowest, cells, corners, count, fold, lanes};
 
 // A block of three inks and k more in a part of the table: all corners, then the folds.
 fn inner(
     t: &[f32],
-    step: &[usize; 16],
-    w: &[f32; 16],
+    axes: &[Axis; 16],
     k: usize,
     left: usize,
     offs: &[usize],
-    count: usize,
     work: &mut [f32],
 ) -> Four
-    requires k_bound { (3 + k ≤ 16) × (count ≡ 2 ^ k) × (count ≤ length offs.now) × (count * 4 ≤ length work.old) }
-    requires left_in_bounds { reach (steps_at step.now w.now 0 (k + 3)) + left ≤ length t.now }
-    requires by_index { (c : ℕ) → c < 2 ^ k → get_or offs.now c 0 ≡ distance (steps_at step.now [] 3 k) c }
-    ensures holds { Holds (λ o. blended step.now w.now k o t.now) left result }
+    requires k_bound { (3 + k ≤ 16) × (length offs.now * 4 ≤ length work.old) }
+    requires left_in_bounds { reach (steps_at axes.now 0 (k + 3)) + left ≤ length t.now }
+    requires distant { Distant (steps_at axes.now 3 k) k offs.now }
+    ensures holds { Holds (λ o. blended axes.now k o t.now) left result }
     ensures kept { length work.new ≡ length work.old }
 {
-    corners::corners(t, step, w, left, offs, count, work);
-    fold::folds(work, count, w, 3, k);
+    corners::corners(t, axes, left, offs, work);
+    fold::folds(work, offs.len(), axes, 3, k);
     lanes::load(work, 0)
 }
 
 // Three inks and k more.
 fn walk(
     t: &[f32],
-    step: &[usize; 16],
-    w: &[f32; 16],
+    axes: &[Axis; 16],
     k: usize,
     m: usize,
     offs: &mut [usize],
     work: &mut [f32],
     out: &mut [f32],
 )
-    requires k_bound { (k ≤ 12) × (m ≤ 15) × Weighed w.now 3 }
-    requires m_in_bounds { reach (steps_at step.now w.now 0 (k + 3)) + m ≤ length t.now }
+    requires k_bound { (k ≤ 12) × (m ≤ 15) × Weighed axes.now 3 }
+    requires m_in_bounds { reach (steps_at axes.now 0 (k + 3)) + m ≤ length t.now }
     requires k_in_bounds { (2 ^ k ≤ length offs.old) × (2 ^ k * 4 ≤ length work.old) × (m ≤ length out.old) }
-    ensures { Gives (answer t.now (steps_at step.now w.now 0 (k + 3)))
+    ensures { Gives (answer t.now (steps_at axes.now 0 (k + 3)))
         m out.old out.new }
 {
-    let count = corners::distances(step, 3, k, offs);
+    let offs = corners::distances(axes, 3, k, offs);
     for o in (0..m).step_by(4) {
-        let f = inner(&t[o..], step, w, k, m - o, offs, count, work);
+        let f = inner(&t[o..], axes, k, m - o, offs, work);
         lanes::give(f, o, m, out);
     }
 }
 
-// Room for three further inks, which costs less to clear than room for all.
-fn small(t: &[f32], step: &[usize; 16], w: &[f32; 16], k: usize, m: usize, out: &mut [f32])
-    requires k_bound { (k ≤ 3) × (m ≤ 15) × Weighed w.now 3 }
-    requires m_in_bounds { reach (steps_at step.now w.now 0 (k + 3)) + m ≤ length t.now }
-    requires room { m ≤ length out.old }
-    ensures { Gives (answer t.now (steps_at step.now w.now 0 (k + 3)))
+// Three inks and k more, with room for so many corners and for so many lanes of their blocks.
+fn roomy<const CORNERS: usize, const LANES: usize>(
+    t: &[f32],
+    axes: &[Axis; 16],
+    k: usize,
+    m: usize,
+    out: &mut [f32],
+)
+    requires k_bound { (k ≤ 12) × (m ≤ 15) × Weighed axes.now 3 }
+    requires m_in_bounds { reach (steps_at axes.now 0 (k + 3)) + m ≤ length t.now }
+    requires sizes { (CORNERS ≤ 64) × (LANES ≤ 256) }
+    requires room { (2 ^ k ≤ CORNERS) × (2 ^ k * 4 ≤ LANES) × (m ≤ length out.old) }
+    ensures { Gives (answer t.now (steps_at axes.now 0 (k + 3)))
         m out.old out.new }
 {
-    let mut offs = [0usize; 8];
-    let mut work = [0.0f32; 32];
-    walk(t, step, w, k, m, &mut offs, &mut work, out);
-}
-
-// Room for six.
-fn large(t: &[f32], step: &[usize; 16], w: &[f32; 16], k: usize, m: usize, out: &mut [f32])
-    requires k_bound { (k ≤ 6) × (m ≤ 15) × Weighed w.now 3 }
-    requires m_in_bounds { reach (steps_at step.now w.now 0 (k + 3)) + m ≤ length t.now }
-    requires room { m ≤ length out.old }
-    ensures { Gives (answer t.now (steps_at step.now w.now 0 (k + 3)))
-        m out.old out.new }
-{
-    let mut offs = [0usize; 64];
-    let mut work = [0.0f32; 256];
-    walk(t, step, w, k, m, &mut offs, &mut work, out);
+    let mut offs = [0usize; CORNERS];
+    let mut work = [0.0f32; LANES];
+    walk(t, axes, k, m, &mut offs, &mut work, out);
 }
 
 // A block of three inks, e more, and j more: the block of e + 3 inks at each corner of the last j, then the folds over those.
 fn outer(
     t: &[f32],
-    step: &[usize; 16],
-    w: &[f32; 16],
+    axes: &[Axis; 16],
     e: usize,
     j: usize,
     left: usize,
     offs: &[usize],
-    corners: usize,
     tops: &[usize],
-    count: usize,
     work: &mut [f32],
     high: &mut [f32],
 ) -> Four
-    requires j_bound { (e + 3 + j ≤ 16) × (count ≡ 2 ^ j) × (count ≤ length tops.now) × (count * 4 ≤ length high.old) }
-    requires corners_value { (corners ≡ 2 ^ e) × (corners ≤ length offs.now) × (corners * 4 ≤ length work.old) }
-    requires left_in_bounds { (c : ℕ) → c < count → get_or tops.now c 0 + reach (steps_at step.now w.now 0 (e + 3)) + left ≤ length t.now }
-    requires by_index { (c : ℕ) → c < 2 ^ e → get_or offs.now c 0 ≡ distance (steps_at step.now [] 3 e) c }
-    requires by_index_2 { (c : ℕ) → c < 2 ^ j → get_or tops.now c 0 ≡ distance (steps_at step.now [] (e + 3) j) c }
+    requires j_bound { (e + 3 + j ≤ 16) × (length tops.now * 4 ≤ length high.old) × (length offs.now * 4 ≤ length work.old) }
+    requires left_in_bounds { (c : ℕ) → c < length tops.now → get_or tops.now c 0 + reach (steps_at axes.now 0 (e + 3)) + left ≤ length t.now }
+    requires distant { Distant (steps_at axes.now 3 e) e offs.now }
+    requires distant_tops { Distant (steps_at axes.now (e + 3) j) j tops.now }
     ensures holds { Holds
-        (λ o. above (blended step.now w.now e o) (steps_at step.now w.now (e + 3) j) t.now)
+        (λ o. above (blended axes.now e o) (steps_at axes.now (e + 3) j) t.now)
         left result }
     ensures kept { (length work.new ≡ length work.old)
         × (length high.new ≡ length high.old) }
 {
-    for c in 0..count {
-        let part = &t[tops[c]..];
-        let f = inner(part, step, w, e, left, offs, corners, work);
+    for (c, x) in tops.iter().enumerate() {
+        let f = inner(&t[*x..], axes, e, left, offs, work);
         lanes::put(high, c * 4, f);
     }
-    fold::folds(high, count, w, e + 3, j);
+    fold::folds(high, tops.len(), axes, e + 3, j);
     lanes::load(high, 0)
 }
 
 // Three inks, e more, and j more.
 fn tower(
     t: &[f32],
-    step: &[usize; 16],
-    w: &[f32; 16],
+    axes: &[Axis; 16],
     e: usize,
     j: usize,
     m: usize,
@@ -130,40 +115,27 @@ fn tower(
     high: &mut [f32],
     out: &mut [f32],
 )
-    requires j_bound { (e + 3 + j ≤ 16) × (m ≤ 15) × Weighed w.now 3 }
-    requires m_in_bounds { reach (steps_at step.now w.now 0 (j + (e + 3))) + m ≤ length t.now }
+    requires j_bound { (e + 3 + j ≤ 16) × (m ≤ 15) × Weighed axes.now 3 }
+    requires m_in_bounds { reach (steps_at axes.now 0 (j + (e + 3))) + m ≤ length t.now }
     requires e_in_bounds { (2 ^ e ≤ length offs.old) × (2 ^ e * 4 ≤ length work.old) }
     requires j_in_bounds { (2 ^ j ≤ length tops.old) × (2 ^ j * 4 ≤ length high.old) × (m ≤ length out.old) }
-    ensures { Gives (answer t.now (steps_at step.now w.now 0 (j + (e + 3))))
+    ensures { Gives (answer t.now (steps_at axes.now 0 (j + (e + 3))))
         m out.old out.new }
 {
-    let corners = corners::distances(step, 3, e, offs);
-    let count = corners::distances(step, e + 3, j, tops);
+    let offs = corners::distances(axes, 3, e, offs);
+    let tops = corners::distances(axes, e + 3, j, tops);
     for o in (0..m).step_by(4) {
-        let f = outer(
-            &t[o..],
-            step,
-            w,
-            e,
-            j,
-            m - o,
-            offs,
-            corners,
-            tops,
-            count,
-            work,
-            high,
-        );
+        let f = outer(&t[o..], axes, e, j, m - o, offs, tops, work, high);
         lanes::give(f, o, m, out);
     }
 }
 
 // Nine inks and j more: room for the corners of six further inks, and for those of six.
-fn highest(t: &[f32], step: &[usize; 16], w: &[f32; 16], j: usize, m: usize, out: &mut [f32])
-    requires j_bound { (j ≤ 6) × (m ≤ 15) × Weighed w.now 3 }
-    requires m_in_bounds { reach (steps_at step.now w.now 0 (j + 9)) + m ≤ length t.now }
+fn highest(t: &[f32], axes: &[Axis; 16], j: usize, m: usize, out: &mut [f32])
+    requires j_bound { (j ≤ 6) × (m ≤ 15) × Weighed axes.now 3 }
+    requires m_in_bounds { reach (steps_at axes.now 0 (j + 9)) + m ≤ length t.now }
     requires room { m ≤ length out.old }
-    ensures { Gives (answer t.now (steps_at step.now w.now 0 (j + 9)))
+    ensures { Gives (answer t.now (steps_at axes.now 0 (j + 9)))
         m out.old out.new }
 {
     let mut offs = [0usize; 64];
@@ -171,27 +143,28 @@ fn highest(t: &[f32], step: &[usize; 16], w: &[f32; 16], j: usize, m: usize, out
     let mut work = [0.0f32; 256];
     let mut high = [0.0f32; 256];
     tower(
-        t, step, w, 6, j, m, &mut offs, &mut tops, &mut work, &mut high, out,
+        t, axes, 6, j, m, &mut offs, &mut tops, &mut work, &mut high, out,
     );
 }
 
 // Three inks and more, from the part that starts at the lowest corner, and the inks' steps and weights.
-fn blend(t: &[f32], n: usize, step: &[usize; 16], w: &[f32; 16], m: usize, out: &mut [f32])
+fn blend(t: &[f32], n: usize, axes: &[Axis; 16], m: usize, out: &mut [f32])
     requires le_n { (3 ≤ n) × (n ≤ 15) × (m ≤ 15) }
-    requires weighed { Weighed w.now 3 }
-    requires m_in_bounds { reach (steps_at step.now w.now 0 n) + m ≤ length t.now }
+    requires weighed { Weighed axes.now 3 }
+    requires m_in_bounds { reach (steps_at axes.now 0 n) + m ≤ length t.now }
     requires room { m ≤ length out.old }
-    ensures { Gives (answer t.now (steps_at step.now w.now 0 n))
+    ensures { Gives (answer t.now (steps_at axes.now 0 n))
         m out.old out.new }
 {
     let k = n - 3;
+    // less room costs less to clear
     if k <= 3 {
-        return small(t, step, w, k, m, out);
+        return roomy::<8, 32>(t, axes, k, m, out);
     }
     if k <= 6 {
-        return large(t, step, w, k, m, out);
+        return roomy::<64, 256>(t, axes, k, m, out);
     }
-    highest(t, step, w, n - 9, m, out)
+    highest(t, axes, n - 9, m, out)
 }
 
 // The m answers and the reads, or 16 for a NaN input.
@@ -212,13 +185,12 @@ pub(crate) fn many(
     ensures reads { Counts
         (reads_in (skip_of skipping) (last_first (length inputs.now) sizes.now) inputs.now) result }
 {
-    let mut step = [0usize; 16];
-    let mut w = [0.0f32; 16];
-    let lowest = cells::cells(filling, sizes, inputs, &mut step, &mut w);
+    let mut axes = [Axis { step: 0, w: 0.0 }; 16];
+    let lowest = cells::cells(filling, sizes, inputs, &mut axes);
     let Lowest::At(at) = lowest else {
         return count::tally(16, 0);
     };
-    let n = cells::keep(&mut step, &mut w, inputs.len(), skipping);
-    blend(&table[at..], n, &step, &w, m, &mut answer[..m]);
+    let n = cells::keep(&mut axes, inputs.len(), skipping);
+    blend(&table[at..], n, &axes, m, &mut answer[..m]);
     count::tally(0, count::reads_of(n))
 }

@@ -2,9 +2,9 @@
 ghost use Rattle.std.specs.Prelude.{◌≡◌, cond, ◌+◌, ◌≤◌, ◌<◌, max, length, get_or};
 ghost use Rattle.binary32.specs.Blend.{mlaf, rise};
 ghost use Rattle.walk.specs.Blocks.{lane, at, Lanes, Holds};
-ghost use Rattle.walk.specs.Steps.{tetra_of, plan_for, first_three, Near};
+ghost use Rattle.walk.specs.Steps.{axis, tetra_of, plan_for, first_three, Near};
 
-use crate::{Four, Plan, lanes};
+use crate::{Axis, Four, Plan, lanes};
 
 // a where the test holds, else b.
 fn pick(test: bool, a: usize, b: usize) -> usize
@@ -39,11 +39,12 @@ pub(crate) fn plan_of(dx: usize, dy: usize, dz: usize, rx: f32, ry: f32, rz: f32
     }
 }
 
-pub(crate) fn first_three(step: &[usize; 16], w: &[f32; 16]) -> Plan
-    requires { get_or step.now 0 0 + get_or step.now 1 0 + get_or step.now 2 0 < 18446744073709551616 }
-    ensures { result ≡ first_three step.now w.now }
+pub(crate) fn first_three(axes: &[Axis; 16]) -> Plan
+    requires { (axis axes.now 0).step + (axis axes.now 1).step + (axis axes.now 2).step < 18446744073709551616 }
+    ensures { result ≡ first_three axes.now }
 {
-    plan_of(step[0], step[1], step[2], w[0], w[1], w[2])
+    let (x, y, z) = (axes[0], axes[1], axes[2]);
+    plan_of(x.step, y.step, z.step, x.w, y.w, z.w)
 }
 
 // The sum so far plus, at output o, the rise from q to p times the ink's weight.
@@ -95,11 +96,11 @@ fn tetra_left(t: &[f32], p: Plan, o: usize, left: usize) -> f32
 }
 
 // At the end of the table: the outputs that are left. It makes the plan again, so that the loop that calls it keeps less.
-fn rest(t: &[f32], step: &[usize; 16], w: &[f32; 16], left: usize) -> Four
-    requires { get_or step.now 0 0 + get_or step.now 1 0 + get_or step.now 2 0 + left ≤ length t.now }
-    ensures { Holds (λ o. tetra_of (first_three step.now w.now) o t.now) left result }
+fn rest(t: &[f32], axes: &[Axis; 16], left: usize) -> Four
+    requires { (axis axes.now 0).step + (axis axes.now 1).step + (axis axes.now 2).step + left ≤ length t.now }
+    ensures { Holds (λ o. tetra_of (first_three axes.now) o t.now) left result }
 {
-    let p = first_three(step, w);
+    let p = first_three(axes);
     Four {
         a: tetra_left(t, p, 0, left),
         b: tetra_left(t, p, 1, left),
@@ -109,13 +110,13 @@ fn rest(t: &[f32], step: &[usize; 16], w: &[f32; 16], left: usize) -> Four
 }
 
 // The block of a part: four outputs where the table has them, else those that are left.
-pub(crate) fn block(t: &[f32], p: Plan, step: &[usize; 16], w: &[f32; 16], left: usize) -> Four
-    requires p_value { p ≡ first_three step.now w.now }
-    requires left_in_bounds { get_or step.now 0 0 + get_or step.now 1 0 + get_or step.now 2 0 + left ≤ length t.now }
-    ensures { Holds (λ o. tetra_of (first_three step.now w.now) o t.now) left result }
+pub(crate) fn block(t: &[f32], p: Plan, axes: &[Axis; 16], left: usize) -> Four
+    requires p_value { p ≡ first_three axes.now }
+    requires left_in_bounds { (axis axes.now 0).step + (axis axes.now 1).step + (axis axes.now 2).step + left ≤ length t.now }
+    ensures { Holds (λ o. tetra_of (first_three axes.now) o t.now) left result }
 {
     if t.len() - p.far >= 4 {
         return tetra4(t, p);
     }
-    rest(t, step, w, left)
+    rest(t, axes, left)
 }

@@ -4,4 +4,4 @@ use Rattle.walk.specs.Walk.{Cornered}
 use Rattle.walk.proofs.corners.corners.Given as goal
 
 abbrev pub invariant-loop-c : goal.invariant-loop-c
-invariant-loop-c l = Cornered (tetra_of (first_three l.step l.w)) l.offs l.t l.left l.c l.initial.work l.work
+invariant-loop-c l = Cornered (tetra_of (first_three l.axes)) l.offs l.t l.left l.c l.initial.work l.work

@@ -3,4 +3,4 @@ use Rattle.walk.proofs.Steps.{Placed}
 use Rattle.walk.proofs.corners.distances.Given as goal
 
 abbrev pub invariant-loop-i : goal.invariant-loop-i
-invariant-loop-i l = Placed l.step l.first l.k l.initial.offs l.offs l.count l.i
+invariant-loop-i l = Placed l.axes l.first l.k l.initial.offs l.offs l.count l.i

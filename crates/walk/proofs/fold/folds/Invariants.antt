@@ -3,4 +3,4 @@ use Rattle.walk.proofs.Halving.{Folds}
 use Rattle.walk.proofs.fold.folds.Given as goal
 
 abbrev pub invariant-loop-i : goal.invariant-loop-i
-invariant-loop-i l = Folds l.w l.first l.k l.initial.work l.work l.half l.i
+invariant-loop-i l = Folds l.axes l.first l.k l.initial.work l.work l.half l.i

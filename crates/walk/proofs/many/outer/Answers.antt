@@ -1,5 +1,5 @@
 -- `walk::many::outer`: the next corner's block, and the fold of all.
-use Rattle.std.proofs.Common.{◌≡◌, arith}
+use Rattle.std.proofs.Common.{◌≡◌, length, arith}
 use Rattle.walk.proofs.Cornering.{cornered-more}
 use Rattle.walk.proofs.Answers.{folded-block}
 use Rattle.walk.proofs.many.outer.Goals as goal
@@ -9,5 +9,5 @@ loop-c-preserved c = cornered-more _ _ _ _ _ _ _ c.loop-c.invariant _ _ (omega a
 
 pub returns-clause-holds : goal.returns-clause-holds
 returns-clause-holds c =
-    let all : c.loop-c.c ≡ c.args.count = omega arith in
-    folded-block _ c.args.step.now c.args.w.now _ _ _ c.requires.by_index_2 _ c.requires.j_bound.1 _ _ _ _ _ (rw all at c.loop-c.invariant) c.folds.ensures _ c.load.ensures
+    let all : c.loop-c.c ≡ length c.args.tops.now = omega arith in
+    folded-block _ c.args.axes.now _ _ _ c.requires.distant_tops _ _ _ _ _ (rw all at c.loop-c.invariant) c.folds.ensures _ c.load.ensures
