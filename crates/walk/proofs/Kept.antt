@@ -5,10 +5,10 @@ use native.Mathlib.Omega.{arith}
 use native.Mathlib.Nat.{zero-add, add-zero}
 use native.Mathlib.Numerals.{add-one}
 use mathlib.Core.Path.{◌≡◌, refl, ap, ap₂, sym, subst, ◌∙◌}
-use mathlib.Core.Bool.{Bool, true, false, cond}
+use mathlib.Core.Bool.{Bool, true, false, cond, not}
 use mathlib.Core.List.{List, [], ◌∷◌, ◌++◌}
-use lib.Dec.{eqb}
 use lib.Ieee.{Float, nan}
+use mir.Val.{bool_byte}
 use lib.ListN.{length, get_or, take, drop, set, length-set, length-append}
 use lib.Seq.{get_or-set_same, get_or-set_other}
 use Rattle.binary32.specs.Range.{Below}
@@ -139,6 +139,11 @@ module _ (skip : Float → Bool) where
         ∙ ap (λ (ws : List Float). 6 * 2 ^ active skip ws) (fourth-on others (steps_at step w 0 3) refl)
         ∙ ap (λ (k : ℕ). 6 * 2 ^ k) (sym active-are)
 
+-- a weight that is skipped takes no place
+pub place : (b : Bool) → bool_byte (not b) ≡ cond b 0 1
+place true = refl
+place false = refl
+
 -- ---- the loop
 
 -- what is stored at place i changes no place before it
@@ -149,75 +154,77 @@ steps-kept step w i d t (suc j) h =
     (λ k. step_cell (get_or-set_other step i (0 + j) d 0 (λ e. omega arith) k) (get_or-set_other w i (0 + j) t nan (λ e. omega arith) k))
     (steps-kept step w i d t j (omega arith))
 
--- after i of the further inks: those kept stand at the first places, and the others are as they were
-pub record Keeping (skip : Float → Bool) (step₀ : List ℕ) (w₀ : List Float) (k : ℕ) (step : List ℕ) (w : List Float) (at i : ℕ) : Type 0 where
+-- at ink i: those of the further inks before it that are kept stand at the first places, and it and the others are as they were
+pub record Keeping (skip : Float → Bool) (step₀ : List ℕ) (w₀ : List Float) (step : List ℕ) (w : List Float) (at i : ℕ) : Type 0 where
   pub steps : length step ≡ 16
   pub weights : length w ≡ 16
-  pub most : i ≤ k
   pub some : 3 ≤ at
-  pub few : at ≤ 3 + i
-  pub standing : steps_at step w 0 at ≡ kept skip (steps_at step₀ w₀ 3 i) ++ steps_at step₀ w₀ 0 3
-  pub next-step : (j : ℕ) → i ≤ j → get_or step (3 + j) 0 ≡ get_or step₀ (3 + j) 0
-  pub next-weight : (j : ℕ) → i ≤ j → get_or w (3 + j) nan ≡ get_or w₀ (3 + j) nan
+  pub few : at ≤ i
+  pub standing : steps_at step w 0 at ≡ kept skip (steps_at step₀ w₀ 3 (i - 3)) ++ steps_at step₀ w₀ 0 3
+  pub next-step : (j : ℕ) → i ≤ j → get_or step j 0 ≡ get_or step₀ j 0
+  pub next-weight : (j : ℕ) → i ≤ j → get_or w j nan ≡ get_or w₀ j nan
 
-module _ (skip : Float → Bool) (step₀ : List ℕ) (w₀ : List Float) (k : ℕ) where
-  pub keeping_none : length step₀ ≡ 16 → length w₀ ≡ 16 → Keeping skip step₀ w₀ k step₀ w₀ 3 0
+module _ (skip : Float → Bool) (step₀ : List ℕ) (w₀ : List Float) where
+  pub keeping_none : length step₀ ≡ 16 → length w₀ ≡ 16 → Keeping skip step₀ w₀ step₀ w₀ 3 3
   keeping_none s t =
-      record {
-        steps = s;
-        weights = t;
-        most = omega arith;
-        some = omega arith;
-        few = omega arith;
-        standing = refl;
-        next-step = λ j h. refl;
-        next-weight = λ j h. refl;
-      }
+      record { steps = s; weights = t; some = omega arith; few = omega arith; standing = refl; next-step = λ j h. refl; next-weight = λ j h. refl }
 
-  module _ (step : List ℕ) (w : List Float) (at i : ℕ) (old : Keeping skip step₀ w₀ k step w at i) (less : i < k) (room : k ≤ 12)
-      (d : ℕ) (t : Float) (step_is : d ≡ get_or step (3 + i) 0) (weight_is : t ≡ get_or w (3 + i) nan) where
+  module _ (step : List ℕ) (w : List Float) (at i : ℕ) (old : Keeping skip step₀ w₀ step w at i) (room : i < 16) where
+    abbrev d : ℕ
+    d = get_or step i 0
+
+    abbrev t : Float
+    t = get_or w i nan
+
     abbrev step' : List ℕ
     step' = set step at d
 
     abbrev w' : List Float
     w' = set w at t
 
-    ink : step_cell d t ≡ step_cell (get_or step₀ (3 + i) 0) (get_or w₀ (3 + i) nan)
-    ink = λ j. step_cell ((step_is ∙ old.next-step i (omega arith)) j) ((weight_is ∙ old.next-weight i (omega arith)) j)
+    from : 3 + (i - 3) ≡ i
+    from = omega (arith, old.some, old.few)
+
+    next : i + 1 - 3 ≡ suc (i - 3)
+    next = omega (arith, old.some, old.few)
+
+    ink : step_cell d t ≡ step_cell (get_or step₀ (3 + (i - 3)) 0) (get_or w₀ (3 + (i - 3)) nan)
+    ink =
+        (λ j. step_cell (old.next-step i (omega arith) j) (old.next-weight i (omega arith) j))
+        ∙ ap (λ (n : ℕ). step_cell (get_or step₀ n 0) (get_or w₀ n nan)) (sym from)
 
     here : step_cell (get_or step' (0 + at) 0) (get_or w' (0 + at) nan) ≡ step_cell d t
     here =
         ap (λ (n : ℕ). step_cell (get_or step' n 0) (get_or w' n nan)) (zero-add at)
-        ∙ (λ j. step_cell (get_or-set_same step at d 0 (omega (arith, old.steps, old.few)) j) (get_or-set_same w at t nan (omega (arith, old.weights, old.few)) j))
+        ∙ (λ j. step_cell (get_or-set_same step at d 0 (omega (arith, old.steps, old.few, room)) j) (get_or-set_same w at t nan (omega (arith, old.weights, old.few, room)) j))
 
-    before : steps_at step' w' 0 at ≡ kept skip (steps_at step₀ w₀ 3 i) ++ steps_at step₀ w₀ 0 3
+    before : steps_at step' w' 0 at ≡ kept skip (steps_at step₀ w₀ 3 (i - 3)) ++ steps_at step₀ w₀ 0 3
     before = steps-kept step w at d t at (omega arith) ∙ old.standing
 
     -- one more ink: left out, or kept
-    stands : (b : Bool) → steps_at step' w' 0 (at + cond b 0 1) ≡ cond b (kept skip (steps_at step₀ w₀ 3 i)) (step_cell d t ∷ kept skip (steps_at step₀ w₀ 3 i)) ++ steps_at step₀ w₀ 0 3
+    stands : (b : Bool) → steps_at step' w' 0 (at + cond b 0 1) ≡ cond b (kept skip (steps_at step₀ w₀ 3 (i - 3))) (step_cell d t ∷ kept skip (steps_at step₀ w₀ 3 (i - 3))) ++ steps_at step₀ w₀ 0 3
     stands true = ap (steps_at step' w' 0) (add-zero at) ∙ before
     stands false = ap (steps_at step' w' 0) (add-one at) ∙ ap₂ (λ (c : Cell) (cs : List Cell). c ∷ cs) here before
 
-    count : (b : Bool) → (3 ≤ at + cond b 0 1) × (at + cond b 0 1 ≤ 3 + (i + 1))
+    count : (b : Bool) → (3 ≤ at + cond b 0 1) × (at + cond b 0 1 ≤ i + 1)
     count true = (omega (arith, old.some), omega (arith, old.few))
     count false = (omega (arith, old.some), omega (arith, old.few))
 
-    pub keeping-more : (p : ℕ) → p ≡ cond (skip t) 0 1 → Keeping skip step₀ w₀ k step' w' (at + p) (i + 1)
+    pub keeping-more : (p : ℕ) → p ≡ cond (skip t) 0 1 → Keeping skip step₀ w₀ step' w' (at + p) (i + 1)
     keeping-more p is =
-        let counted = subst (λ (q : ℕ). (3 ≤ at + q) × (at + q ≤ 3 + (i + 1))) (sym is) (count (skip t)) in
+        let counted = subst (λ (q : ℕ). (3 ≤ at + q) × (at + q ≤ i + 1)) (sym is) (count (skip t)) in
         record {
           steps = simp length-set old.steps;
           weights = simp length-set old.weights;
-          most = omega arith;
           some = counted.0;
           few = counted.1;
           standing =
               ap (λ (q : ℕ). steps_at step' w' 0 (at + q)) is
               ∙ stands (skip t)
-              ∙ ap (λ (c : Cell). kept skip (c ∷ steps_at step₀ w₀ 3 i) ++ steps_at step₀ w₀ 0 3) ink
-              ∙ ap (λ (n : ℕ). kept skip (steps_at step₀ w₀ 3 n) ++ steps_at step₀ w₀ 0 3) (sym (add-one i));
-          next-step = λ j h. get_or-set_other step at (3 + j) d 0 (λ e. omega (arith, old.few)) ∙ old.next-step j (omega arith);
-          next-weight = λ j h. get_or-set_other w at (3 + j) t nan (λ e. omega (arith, old.few)) ∙ old.next-weight j (omega arith);
+              ∙ ap (λ (c : Cell). kept skip (c ∷ steps_at step₀ w₀ 3 (i - 3)) ++ steps_at step₀ w₀ 0 3) ink
+              ∙ ap (λ (n : ℕ). kept skip (steps_at step₀ w₀ 3 n) ++ steps_at step₀ w₀ 0 3) (sym next);
+          next-step = λ j h. get_or-set_other step at j d 0 (λ e. omega (arith, old.few)) ∙ old.next-step j (omega arith);
+          next-weight = λ j h. get_or-set_other w at j t nan (λ e. omega (arith, old.few)) ∙ old.next-weight j (omega arith);
         }
 
 -- with nothing to be skipped all inks are kept
@@ -231,6 +238,6 @@ never-kept step w n some = three-first step w n some ∙ ap (λ (cs : List Cell)
 -- ---- ink 4 alone above three
 
 pub fourth-above : (b : Bool) (d : ℕ) (t : Float) (three : List Float → Float) (part : List Float)
-    → fourth (eqb (cond b 0 1) 0) (three part) (three (drop d part)) t ≡ walk.above three (cond b [] (step_cell d t ∷ [])) part
+    → fourth b (three part) (three (drop d part)) t ≡ walk.above three (cond b [] (step_cell d t ∷ [])) part
 fourth-above true d t three part = refl
 fourth-above false d t three part = refl
