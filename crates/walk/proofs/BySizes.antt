@@ -19,8 +19,11 @@ use Rattle.layout.specs.Lengths.{length_refusal}
 use Rattle.lookup.specs.Places.{Promised, answer_in, Answered}
 use Rattle.lookup.specs.Idle.{reads_at}
 use Rattle.lookup.proofs.Grid.{laid-of}
-use Rattle.walk.specs.declared.Counted.{Counted}
-use Rattle.walk.specs.Kept.{reads_in, Counts}
+use Rattle.std.specs.Prelude.{Result}
+use Rattle.outcome.specs.declared.Refusal.{Refusal}
+use Rattle.outcome.specs.Refused.{number_in}
+use Rattle.walk.specs.Kept.{reads_in}
+use Rattle.walk.specs.Calls.{Counts}
 
 moved : (f f' s : List ℕ) (n n' m m' : ℕ) → f ≡ f' → n ≡ n' → m ≡ m' → Promised f' s n' m' → Promised f s n m
 moved f f' s n n' m m' a b c laid = rw (a, b, c) laid
@@ -72,6 +75,6 @@ module _ (sizes : List ℕ) (n m : ℕ) (none : (laid_of sizes n m).refusal ≡ 
         }
 
   -- and the reads
-  pub counted-by-sizes : (skip : Float → Bool) (xs : List Float) (r : Counted) → Counts (reads_in skip (last_first n sizes) xs) r → Counts (reads_at skip lut xs) r
+  pub counted-by-sizes : (skip : Float → Bool) (xs : List Float) (r : Result ℕ Refusal) → Counts (reads_in skip (last_first n sizes) xs) r → Counts (reads_at skip lut xs) r
   unfolding reads_at
-  counted-by-sizes skip xs r counts = counts ∙ ap (λ (l : List ℕ). on_done r.refusal (reads_in skip l xs) 0) gs
+  counted-by-sizes skip xs r counts = counts ∙ ap (λ (l : List ℕ). on_done (number_in r) (reads_in skip l xs) 0) gs

@@ -5,10 +5,10 @@ use native.Mathlib.Omega.{arith}
 use native.Mathlib.Nat.{zero-add, add-zero}
 use native.Mathlib.Numerals.{add-one}
 use mathlib.Core.Path.{◌≡◌, refl, ap, ap₂, sym, subst, ◌∙◌}
-use mathlib.Core.Bool.{Bool, true, false, cond}
+use mathlib.Core.Bool.{Bool, true, false, cond, not}
 use mathlib.Core.List.{List, [], ◌∷◌, ◌++◌}
-use lib.Dec.{eqb}
 use lib.Ieee.{Float, nan}
+use mir.Val.{bool_byte}
 use lib.ListN.{length, take, drop, set, length-set, length-append}
 use lib.Seq.{get_or-set_same, get_or-set_other}
 use Rattle.binary32.specs.Range.{Below}
@@ -140,6 +140,11 @@ module _ (skip : Float → Bool) where
         ∙ ap (λ (ws : List Float). 6 * 2 ^ active skip ws) (fourth-on others (steps_at axes 0 3) refl)
         ∙ ap (λ (k : ℕ). 6 * 2 ^ k) (sym active-are)
 
+-- a weight that is skipped takes no place
+pub place : (b : Bool) → bool_byte (not b) ≡ cond b 0 1
+place true = refl
+place false = refl
+
 -- ---- the loop
 
 -- what is stored at place i changes no place before it
@@ -210,6 +215,6 @@ never-kept axes n some = three-first axes n some ∙ ap (λ (cs : List Cell). cs
 -- ---- ink 4 alone above three
 
 pub fourth-above : (b : Bool) (d : ℕ) (t : Float) (three : List Float → Float) (part : List Float)
-    → fourth (eqb (cond b 0 1) 0) (three part) (three (drop d part)) t ≡ walk.above three (cond b [] (step_cell d t ∷ [])) part
+    → fourth b (three part) (three (drop d part)) t ≡ walk.above three (cond b [] (step_cell d t ∷ [])) part
 fourth-above true d t three part = refl
 fourth-above false d t three part = refl

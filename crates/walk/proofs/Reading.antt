@@ -2,57 +2,68 @@
 use Prim.Native.Nat.{ℕ, zero, suc, ◌+◌, ◌*◌, ◌<◌, ◌≤◌}
 use native.Mathlib.Omega.{arith}
 use native.Mathlib.Nat.{mul-le-mul_right}
-use native.Mathlib.Numerals.{add-one}
 use native.Mathlib.Decide.{dec_le}
-use mathlib.Core.Path.{◌≡◌, refl, sym, ap, ap₂, subst, ◌∙◌}
+use mathlib.Core.Path.{◌≡◌, refl, sym, ap, subst, ◌∙◌}
 use mathlib.Core.Bool.{Bool, true, false, cond}
 use mathlib.Core.List.{List, [], ◌∷◌}
 use lib.Ieee.{Float, nan, is_nan}
 use lib.ListN.{length, get_or}
+use borrow.Author.Count.{below_more}
+use Rattle.std.specs.Prelude.{Result, Err}
+use Rattle.outcome.specs.declared.Refusal.{Refusal}
+use Rattle.outcome.specs.declared.Refusal.TheVariants.{NanInput}
+use Rattle.outcome.specs.Outcome.{on_done}
+use Rattle.outcome.specs.Refused.{number_of}
+use Rattle.outcome.proofs.Numbers.{not_done}
+use Rattle.outcome.proofs.Refused.{kept}
 use Rattle.binary32.specs.Range.{Below}
-use Rattle.lists.specs.Lists.{some, last_first, product}
+use Rattle.lists.specs.Lists.{some, last_first}
 use Rattle.lists.specs.Buffer.{written}
 use Rattle.lists.proofs.Lists.{some_at, some-none}
 use Rattle.lists.proofs.Buffer.{written_same}
 use Rattle.cell.specs.declared.Cell.{Cell}
-use Rattle.cell.specs.declared.Found.{Found}
-use Rattle.cell.specs.declared.Found.TheVariants as found_as
-use Rattle.cell.specs.Rule.{found_of}
-use Rattle.cell.proofs.Said.{found-nan}
 use Rattle.cell.proofs.Laws.{ink-on-grid}
-use Rattle.lookup.specs.Places.{placed_ink, first_inks, answer_by, reach, Promised, NoNans, answer_in, Settled}
+use Rattle.lookup.specs.Places.{placed_ink, first_inks, answer_by, reach, NoNans, answer_in, Settled}
 use Rattle.lookup.proofs.Grid.{inks-reach, inks-done}
-use Rattle.lookup.proofs.Nans.{placed_at, numbers-to}
-
--- the first k inputs are numbers, and cs are their cells
-pub record Read (filling sizes : List ℕ) (xs : List Float) (k : ℕ) (cs : List Cell) : Type 0 where
-  pub numbers : NoNans xs k
-  pub are : cs ≡ first_inks filling sizes xs k
+use Rattle.walk.specs.Calls.{Ready, Counts}
 
 -- each lower node is no farther than the upper one, and each weight is from 0 up and below 1
 abbrev pub Proper : List Cell → Type 0
 Proper [] = Unit {0}
 Proper (c ∷ cs) = ((c.x ≤ c.x_n) × Below 1 c.w) × Proper cs
 
+-- ---- numbers
+
+module _ (xs : List Float) where
+  pub no_nans : NoNans xs 0
+  no_nans i h = absurd (omega arith)
+
+  pub nans-next : (k : ℕ) → NoNans xs k → is_nan (get_or xs k nan) ≡ false → NoNans xs (k + 1)
+  nans-next k before here = below_more (λ i. is_nan (get_or xs i nan) ≡ false) k before here
+
+  pub all-numbers : (k : ℕ) → NoNans xs k → length xs ≡ k → some is_nan xs ≡ false
+  all-numbers k each is = some-none is_nan nan xs (subst (NoNans xs) (sym is) each)
+
+  pub nan-at : (k : ℕ) → k < length xs → is_nan (get_or xs k nan) ≡ true → some is_nan xs ≡ true
+  nan-at k less one = some_at is_nan nan xs k less one
+
+-- ---- what is owed where one input is NaN, and where none is
+
+module _ (xs : List Float) (f : ℕ → Float) (m : ℕ) (old : List Float) where
+  pub settled-nan : (e : Refusal) → some is_nan xs ≡ true → e ≡ NanInput → Settled f m xs old (number_of e) old
+  settled-nan e one is = rw is (record { number = sym (ap (λ (b : Bool). cond b 16 0) one); entries = refl })
+
+  settled-done : some is_nan xs ≡ false → (now : List Float) → now ≡ written f m old → Settled f m xs old 0 now
+  settled-done none now w = record { number = sym (ap (λ (b : Bool). cond b 16 0) none); entries = w }
+
+-- a refused call counts no reads
+pub refused-counts : (count : ℕ) (e : Refusal) → Counts count (Err e)
+refused-counts count e = kept (number_of e) count 0 (not_done e) refl
+
+-- ---- what all cells are
+
 module _ (filling sizes : List ℕ) (xs : List Float) where
-  pub read_none : Read filling sizes xs 0 []
-  read_none = record { numbers = λ i h. absurd (omega arith); are = refl }
-
-  module _ (k : ℕ) (r : Found) (said : r ≡ found_of (get_or xs k nan) (placed_ink filling sizes xs k)) where
-    pub read_more : (cs : List Cell) → Read filling sizes xs k cs → (c : Cell) → r ≡ found_as.At c → Read filling sizes xs (suc k) (c ∷ cs)
-    read_more cs before c e =
-        record {
-          numbers = subst (NoNans xs) (add-one k) (numbers-to filling sizes xs k r said c e before.numbers);
-          are = ap₂ (λ (q : Cell) (qs : List Cell). q ∷ qs) (placed_at filling sizes xs k r said c e) before.are;
-        }
-
-    -- no number
-    pub read-nan : k < length xs → r ≡ found_as.NotANumber → some is_nan xs ≡ true
-    read-nan less e = some_at is_nan nan xs k less (found-nan (get_or xs k nan) (placed_ink filling sizes xs k) r said e)
-
-  -- ---- what all cells are
-
-  pub ordered-ink : (i : ℕ) → get_or sizes i 0 < 256 → (placed_ink filling sizes xs i).x ≤ (placed_ink filling sizes xs i).x_n
+  ordered-ink : (i : ℕ) → get_or sizes i 0 < 256 → (placed_ink filling sizes xs i).x ≤ (placed_ink filling sizes xs i).x_n
   ordered-ink i byte = mul-le-mul_right (get_or filling i 0) (ink-on-grid (get_or xs i nan) (get_or sizes i 0) byte i).ordered
 
   inks-proper : (n : ℕ) → ((i : ℕ) → i < n → get_or sizes i 0 < 256) → Proper (first_inks filling sizes xs n)
@@ -69,32 +80,37 @@ module _ (filling sizes : List ℕ) (xs : List Float) where
         | no more ↦ let e : i ≡ suc n = omega arith in rw e (omega arith)
       ]
 
--- ---- what is owed where one input is NaN, and where none is
+-- the first k inks of a call
+module _ {filling sizes : List ℕ} {m : ℕ} {table xs : List Float} (ready : Ready filling sizes m table xs) (k : ℕ) where
+  abbrev cs : List Cell
+  cs = first_inks filling sizes xs k
 
-module _ (xs : List Float) (f : ℕ → Float) (m : ℕ) (old : List Float) where
-  pub settled-nan : some is_nan xs ≡ true → Settled f m xs old 16 old
-  settled-nan one = record { number = sym (ap (λ (b : Bool). cond b 16 0) one); entries = refl }
-
-  pub settled-done : some is_nan xs ≡ false → (now : List Float) → now ≡ written f m old → Settled f m xs old 0 now
-  settled-done none now w = record { number = sym (ap (λ (b : Bool). cond b 16 0) none); entries = w }
-
--- the first k inks of an accepted layout
-module _ (filling sizes : List ℕ) (xs : List Float) (m : ℕ) (laid : Promised filling sizes (length xs) m) (table : List Float)
-    (enough : product (last_first (length xs) sizes) * m ≤ length table) (k : ℕ) (cs : List Cell) (are : cs ≡ first_inks filling sizes xs k) where
   pub cells-proper : k ≤ length xs → Proper cs
-  cells-proper few = subst Proper (sym are) (inks-proper filling sizes xs k (λ i h. (laid.narrow i (omega arith)).1))
+  cells-proper few = inks-proper filling sizes xs k (λ i h. (ready.laid.narrow i (omega arith)).1)
 
   pub cells-reach : k ≤ length xs → reach cs + m ≤ length table
   cells-reach few =
-      let all = inks-reach filling sizes xs m laid table enough (length xs) refl (first_inks filling sizes xs (length xs)) refl in
-      let these = ap reach are in
-      omega (arith, all, these, reach-grows filling sizes xs k (length xs) few)
+      let all = inks-reach filling sizes xs m ready.laid table ready.enough (length xs) refl (first_inks filling sizes xs (length xs)) refl in
+      omega (arith, all, reach-grows filling sizes xs k (length xs) few)
 
-  pub cells-done : (skip : Float → Bool) → length xs ≡ k → some is_nan xs ≡ false → (f : ℕ → Float) → ((o : ℕ) → o < m → f o ≡ answer_by skip table cs o) → (old now : List Float) → now ≡ written f m old
+  pub cells-done : (skip : Float → Bool) → length xs ≡ k → some is_nan xs ≡ false → (f : ℕ → Float) → ((o : ℕ) → o < m → f o ≡ answer_by skip table cs o)
+      → (old now : List Float) → now ≡ written f m old
       → Settled (answer_in skip (last_first (length xs) sizes) m table xs) m xs old 0 now
   cells-done skip is none f same old now w =
-      settled-done xs _ m old none now (inks-done filling sizes xs m laid table enough k is skip cs are old now (w ∙ written_same f (answer_by skip table cs) m old same))
+      settled-done xs _ m old none now
+      (inks-done filling sizes xs m ready.laid table ready.enough k is skip cs refl old now (w ∙ written_same f (answer_by skip table cs) m old same))
 
--- all inputs read
-pub read-numbers : (filling sizes : List ℕ) (xs : List Float) (k : ℕ) (cs : List Cell) → Read filling sizes xs k cs → length xs ≡ k → some is_nan xs ≡ false
-read-numbers filling sizes xs k cs read is = some-none is_nan nan xs (subst (NoNans xs) (sym is) read.numbers)
+module _ {filling sizes : List ℕ} {m : ℕ} {table xs : List Float} (ready : Ready filling sizes m table xs) where
+  pub ink-ordered : (k : ℕ) → k < length xs → (c : Cell) → c ≡ placed_ink filling sizes xs k → c.x ≤ c.x_n
+  ink-ordered k less c is = rw is (ordered-ink filling sizes xs k (ready.laid.narrow k less).1)
+
+  -- the cells of the first inks lie within the table
+  pub one-inside : (c : Cell) → c ≡ placed_ink filling sizes xs 0 → c.x_n + m ≤ length table
+  one-inside c is = rw is (omega (arith, cells-reach ready 1 ready.laid.inks-from))
+
+  pub two-inside : 2 ≤ length xs → (c d : Cell) → c ≡ placed_ink filling sizes xs 0 → d ≡ placed_ink filling sizes xs 1 → d.x_n + c.x_n + m ≤ length table
+  two-inside from c d is also = rw (is, also) (omega (arith, cells-reach ready 2 from))
+
+  pub three-inside : 3 ≤ length xs → (c d e : Cell) → c ≡ placed_ink filling sizes xs 0 → d ≡ placed_ink filling sizes xs 1 → e ≡ placed_ink filling sizes xs 2
+      → (c.x + d.x + e.x ≤ length table) × (c.x_n + d.x_n + e.x_n ≤ length table)
+  three-inside from c d e is also last = rw (is, also, last) (omega (arith, cells-reach ready 3 from), omega (arith, cells-reach ready 3 from))

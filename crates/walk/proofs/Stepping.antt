@@ -3,8 +3,8 @@ use Prim.Native.Nat.{ℕ, zero, suc, ◌+◌, ◌-◌, ◌<◌, ◌≤◌}
 use native.Mathlib.Omega.{arith}
 use native.Mathlib.Nat.{zero-add}
 use native.Mathlib.Numerals.{add-one}
-use mathlib.Core.Path.{◌≡◌, refl, ap, ap₂, sym, fun_ext, ◌∙◌}
-use mathlib.Core.Bool.{Bool, true, false, cond, true≢false}
+use mathlib.Core.Path.{◌≡◌, refl, ap, ap₂, sym, subst, fun_ext, ◌∙◌}
+use mathlib.Core.Bool.{Bool, true, false, cond}
 use mathlib.Core.List.{List, [], ◌∷◌}
 use lib.Ieee.{Float, nan, is_nan}
 use lib.ListN.{length, get_or, take, drop, set, length-set}
@@ -12,17 +12,15 @@ use lib.Seq.{get_or-drop, get_or-set_same}
 use Rattle.binary32.specs.Blend.{along, square, tetra, lerp}
 use Rattle.lists.specs.Lists.{some}
 use Rattle.cell.specs.declared.Cell.{Cell}
-use Rattle.cell.proofs.Said.{tells-value}
 use Rattle.lookup.specs.Lookup.{Grid, node, lookup_with}
 use Rattle.lookup.specs.Places.{sum, reach, answer_by, placed_ink, first_inks, NoNans}
 use Rattle.lookup.specs.Idle.{weights_of}
 use Rattle.lookup.proofs.Part.{from-drop}
 use Rattle.walk.proofs.Kept.{steps-kept}
-use Rattle.walk.proofs.Reading.{Proper, reach-grows}
+use Rattle.walk.proofs.Reading.{Proper, cells-reach, no_nans, nans-next, all-numbers}
 use Rattle.walk.specs.declared.Axis.{Axis}
-use Rattle.walk.specs.declared.Lowest.{Lowest}
-use Rattle.walk.specs.declared.Lowest.TheVariants as lowest
-use Rattle.walk.specs.Steps.{axis, cell_of, step_cell, steps_at, stepped, lows, lowest_of}
+use Rattle.walk.specs.Calls.{Ready}
+use Rattle.walk.specs.Steps.{axis, cell_of, step_cell, steps_at, stepped, lows, all_inks}
 
 node-step : (c : Cell) (b : Bool) → c.x ≤ c.x_n → node c b ≡ c.x + node (step_cell (c.x_n - c.x) c.w) b
 node-step c true h = omega arith
@@ -101,10 +99,6 @@ pub lows-reach : (filling sizes : List ℕ) (xs : List Float) (n : ℕ) → lows
 lows-reach filling sizes xs zero = omega arith
 lows-reach filling sizes xs (suc n) = omega (arith, lows-reach filling sizes xs n)
 
--- an ink by its step
-abbrev pub axis_of : Cell → Axis
-axis_of c = record { step = c.x_n - c.x; w = c.w }
-
 -- after i inks
 pub record Stepping (filling sizes : List ℕ) (xs : List Float) (axes : List Axis) (at i : ℕ) : Type 0 where
   pub room : length axes ≡ 16
@@ -112,46 +106,45 @@ pub record Stepping (filling sizes : List ℕ) (xs : List Float) (axes : List Ax
   pub base : at ≡ lows (first_inks filling sizes xs i)
   pub standing : steps_at axes 0 i ≡ stepped (first_inks filling sizes xs i)
 
-module _ (filling sizes : List ℕ) (xs : List Float) (axes : List Axis) where
-  pub stepping-more : (at i : ℕ) (c : Cell) → i < length axes → c ≡ placed_ink filling sizes xs i → NoNans xs (i + 1) → Stepping filling sizes xs axes at i
-      → Stepping filling sizes xs (set axes i (axis_of c)) (at + c.x) (i + 1)
-  stepping-more at i c inside is numbers old =
-      record {
-        room = simp length-set old.room;
-        numbers = numbers;
-        base = rw (add-one i) (sum-turned old.base (ap (λ (q : Cell). q.x) is));
-        standing = rw (add-one i) (ap₂ (λ (q : Cell) (cs : List Cell). q ∷ cs) (ap cell_of here ∙ ap (λ (q : Cell). step_cell (q.x_n - q.x) q.w) is) (steps-kept axes i (axis_of c) i (omega arith) ∙ old.standing));
-      }
-    where
-      sum-turned : {a l y z : ℕ} → a ≡ l → y ≡ z → a + y ≡ z + l
-      sum-turned e f = omega arith
+module _ {filling sizes : List ℕ} {m : ℕ} {table xs : List Float} (ready : Ready filling sizes m table xs) (axes : List Axis) where
+  pub stepping-none : length axes ≡ 16 → Stepping filling sizes xs axes 0 0
+  stepping-none sixteen = record { room = sixteen; numbers = no_nans xs; base = refl; standing = refl }
 
-      here : axis (set axes i (axis_of c)) (0 + i) ≡ axis_of c
-      here = ap (axis (set axes i (axis_of c))) (zero-add i) ∙ get_or-set_same axes i (axis_of c) (record { step = 0; w = nan }) inside
+  module _ (at i : ℕ) (less : i < length xs) (c : Cell) (is : c ≡ placed_ink filling sizes xs i) (old : Stepping filling sizes xs axes at i) where
+    abbrev pub axis_of : Axis
+    axis_of = record { step = c.x_n - c.x; w = c.w }
 
-  pub base-fits : (at i : ℕ) (c : Cell) → i < length xs → c ≡ placed_ink filling sizes xs i → Stepping filling sizes xs axes at i
-      → reach (first_inks filling sizes xs (length xs)) < 18446744073709551616 → at + c.x < 18446744073709551616
-  base-fits at i c less is old fits =
-      let x = ap (λ (q : Cell). q.x) is in
-      omega (arith, x, old.base, lows-reach filling sizes xs (suc i), reach-grows filling sizes xs (suc i) (length xs) less)
+    pub stepping-more : is_nan (get_or xs i nan) ≡ false → Stepping filling sizes xs (set axes i axis_of) (at + c.x) (i + 1)
+    stepping-more number =
+        record {
+          room = simp length-set old.room;
+          numbers = nans-next xs i old.numbers number;
+          base = rw (add-one i) (sum-turned old.base (ap (λ (q : Cell). q.x) is));
+          standing =
+              rw (add-one i) (ap₂ (λ (q : Cell) (cs : List Cell). q ∷ cs) (ap cell_of here ∙ ap (λ (q : Cell). step_cell (q.x_n - q.x) q.w) is) (steps-kept axes i axis_of i (omega arith) ∙ old.standing));
+        }
+      where
+        sum-turned : {a l y z : ℕ} → a ≡ l → y ≡ z → a + y ≡ z + l
+        sum-turned e f = omega arith
 
--- ---- what is said of all inputs
+        here : axis (set axes i axis_of) (0 + i) ≡ axis_of
+        here =
+            ap (axis (set axes i axis_of)) (zero-add i)
+            ∙ get_or-set_same axes i axis_of (record { step = 0; w = nan }) (omega (arith, old.room, ready.laid.inks-to, less))
 
-abbrev at_in : Lowest → ℕ
-at_in (lowest.At a) = a
-at_in lowest.NotANumber = 0
+    -- the lowest corner so far stands within the table
+    pub base-within : at + c.x + m ≤ length table
+    base-within =
+        let x = ap (λ (q : Cell). q.x) is in
+        omega (arith, x, old.base, lows-reach filling sizes xs (suc i), cells-reach ready (suc i) less)
 
-abbrev is_at : Lowest → Bool
-is_at (lowest.At a) = true
-is_at lowest.NotANumber = false
+  -- after the last one
+  module _ (at i : ℕ) (all : i ≡ length xs) (old : Stepping filling sizes xs axes at i) where
+    pub stepped_numbers : some is_nan xs ≡ false
+    stepped_numbers = all-numbers xs i old.numbers (sym all)
 
-module _ (xs : List Float) (l : ℕ) where
-  pub lowest-nan : some is_nan xs ≡ true → lowest.NotANumber ≡ lowest_of xs l
-  lowest-nan one = sym (ap (λ (b : Bool). cond b lowest.NotANumber (lowest.At l)) one)
+    pub stepped-base : at ≡ lows (all_inks filling sizes xs)
+    stepped-base = old.base ∙ ap (λ (n : ℕ). lows (first_inks filling sizes xs n)) all
 
-  pub lowest-at : some is_nan xs ≡ false → (a : ℕ) → a ≡ l → lowest.At a ≡ lowest_of xs l
-  lowest-at none a is = ap lowest.At is ∙ sym (ap (λ (b : Bool). cond b lowest.NotANumber (lowest.At l)) none)
-
-  module _ (r : Lowest) (said : r ≡ lowest_of xs l) where
-    pub told_at : (a : ℕ) → r ≡ lowest.At a → (some is_nan xs ≡ false) × (a ≡ l)
-    told_at a e = tells-value lowest.NotANumber lowest.At (λ v w p. ap at_in p) (λ v p. true≢false (ap is_at p)) (some is_nan xs) a l (sym e ∙ said)
+    pub stepped-standing : steps_at axes 0 (length xs) ≡ stepped (all_inks filling sizes xs)
+    stepped-standing = subst (λ (n : ℕ). steps_at axes 0 n ≡ stepped (first_inks filling sizes xs n)) all old.standing

@@ -2,10 +2,15 @@
 use mathlib.Core.Path.{sym, ap, ◌∙◌}
 use mathlib.Core.List.{List}
 use lib.Ieee.{Float}
+use Rattle.std.specs.Prelude.{◌≡◌, ℕ, Result, Ok, Err}
+use Rattle.outcome.specs.declared.Refusal.{Refusal}
 use Rattle.outcome.specs.Outcome.{OneOutcome, Agree}
+use Rattle.outcome.specs.Refused.{number_in}
+use Rattle.outcome.proofs.Numbers.{same_answer}
 use Rattle.layout.specs.Layout.{laid_of}
 use Rattle.lookup.specs.Lookup.{idle}
 use Rattle.lookup.specs.Idle.{reads_at}
+use Rattle.walk.specs.Count.{count_in}
 use Rattle.lookup.proofs.Unique as first
 use Rattle.lookup.proofs.lookup.Reads as first-lookup-reads
 use Rattle.lookup.proofs.lookup_by_sizes.Reads as first-lookup-by-sizes-reads
@@ -17,6 +22,10 @@ use Rattle.walk.proofs.skipping.Kinds as skipping-kinds
 use Rattle.walk.proofs.skipping.Reads as skipping-reads
 use Rattle.walk.proofs.skipping_by_sizes.Kinds as skipping-by-sizes-kinds
 use Rattle.walk.proofs.skipping_by_sizes.Reads as skipping-by-sizes-reads
+
+-- answers of one number and one count
+same_counted : (x y : Result ℕ Refusal) → number_in x ≡ number_in y → count_in x ≡ count_in y → x ≡ y
+same_counted x y number count = same_answer x y number (λ a b p q. ap count_in (sym p) ∙ count ∙ ap count_in q)
 
 pub lookup-unique : OneOutcome 3 lookup-kinds.ps lookup-kinds.r lookup-reads.Post
 lookup-unique = first.lookup-unique
@@ -36,7 +45,7 @@ pub skipping-unique : OneOutcome 3 skipping-kinds.ps skipping-kinds.r skipping-r
 skipping-unique κs a x y ws vs p q =
     let number = first.one_number _ _ _ _ _ _ _ _ _ _ p.looked q.looked in
     let count = first.one-count (reads_at idle a.0 a.1.1.0.now) number p.counted q.counted in (
-      (λ i. record { refusal = number i; reads = count i }),
+      same_counted x y number count,
       ap (λ (l : List Float). (tt, (tt, (tt, (l, tt))))) (first.one-buffer _ _ _ _ _ _ _ _ _ p.looked q.looked),
     )
 
@@ -46,7 +55,7 @@ skipping-by-sizes-unique κs a x y ws vs p q =
     let reads = reads_at idle (laid_of a.0.now a.1.0 a.1.1.0).lut a.1.1.1.1.0.now in
     let count = first.one-count reads number p.counted q.counted in
     let entries = p.looked.entries ∙ sym q.looked.entries in
-    ((λ i. record { refusal = number i; reads = count i }), λ i. (tt, (tt, (tt, (tt, (tt, (entries i, tt)))))))
+    (same_counted x y number count, λ i. (tt, (tt, (tt, (tt, (tt, (entries i, tt)))))))
 
 -- no `requires`
 pub lookup-asks-nothing : (κs : _) (a : _) → lookup-reads.Pre κs a

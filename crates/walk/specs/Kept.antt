@@ -1,12 +1,10 @@
 -- The inks that are kept, and the count of reads, for the contracts of private functions alone. Definitions only.
-use Rattle.std.specs.Prelude.{ℕ, ◌-◌, ◌≡◌, Bool, cond, List, [], ◌∷◌, ◌++◌, Float}
-use Rattle.outcome.specs.Outcome.{on_done}
+use Rattle.std.specs.Prelude.{ℕ, ◌-◌, Bool, cond, List, [], ◌∷◌, ◌++◌, Float}
 use Rattle.cell.specs.declared.Cell.{Cell}
 use Rattle.lookup.specs.Lookup.{never, idle}
 use Rattle.lookup.specs.Table.{cells}
 use Rattle.lookup.specs.Idle.{reads, weights_of}
 use Rattle.walk.specs.declared.Axis.{Axis}
-use Rattle.walk.specs.declared.Counted.{Counted}
 use Rattle.walk.specs.Steps.{steps_at}
 
 -- the weights to be skipped, where skipping is asked for
@@ -25,7 +23,3 @@ kept_at skip axes n = kept skip (steps_at axes 3 (n - 3)) ++ steps_at axes 0 3
 -- the reads in a table of the sizes gs, last ink first
 abbrev pub reads_in : (Float → Bool) → List ℕ → List Float → ℕ
 reads_in skip gs xs = reads skip (weights_of (cells gs xs))
-
--- so many nodes are read unless the call is refused
-abbrev pub Counts : ℕ → Counted → Type 0
-Counts count r = r.reads ≡ on_done r.refusal count 0

@@ -2,15 +2,13 @@
 -- Definitions only.
 use Rattle.std.specs.Prelude.{ℕ, zero, suc, ◌+◌, ◌-◌, ◌≤◌, ◌<◌, Bool, true, false, not, cond, List, [], ◌∷◌, Float, length, get_or}
 use Rattle.std.specs.Float.{nan}
-use Rattle.std.specs.Float.Ieee.{is_nan, le}
+use Rattle.std.specs.Float.Ieee.{le}
 use Rattle.binary32.specs.Blend.{lerp, terms, rise}
 use Rattle.binary32.specs.Range.{Below}
-use Rattle.lists.specs.Lists.{some}
 use Rattle.cell.specs.declared.Cell.{Cell}
 use Rattle.lookup.specs.Places.{first_inks}
 use Rattle.walk.specs.declared.Axis.{Axis}
 use Rattle.walk.specs.declared.Plan.{Plan}
-use Rattle.walk.specs.declared.Lowest.{Lowest}
 use Rattle.walk.specs.Blocks.{at}
 
 -- the cells of all inputs, last ink first
@@ -41,10 +39,6 @@ stepped (c ∷ cs) = step_cell (c.x_n - c.x) c.w ∷ stepped cs
 abbrev pub lows : List Cell → ℕ
 lows [] = 0
 lows (c ∷ cs) = c.x + lows cs
-
--- what is said of the inputs: that one is NaN, or where the lowest corner stands
-abbrev pub lowest_of : List Float → ℕ → Lowest
-lowest_of xs at = cond (some is_nan xs) Lowest.NotANumber (Lowest.At at)
 
 -- each weight is from 0 up and below 1
 abbrev pub Weighed : List Axis → ℕ → Type 0

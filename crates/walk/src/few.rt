@@ -1,13 +1,16 @@
 // The answers of one ink to four: in one block of four outputs where the count and the table allow it, else output by output.
 ghost use Rattle.std.specs.Prelude.{◌≡◌, [], ◌∷◌, ℕ, ◌+◌, ◌*◌, ◌≤◌, ◌<◌, length, drop};
-ghost use Rattle.lists.specs.Lists.{last_first, product};
-ghost use Rattle.lookup.specs.Places.{reach, answer, Promised, SettledIn, SettledWith};
+ghost use Rattle.outcome.specs.Refused.{number_in};
+ghost use Rattle.lists.specs.Lists.{last_first};
+ghost use Rattle.lookup.specs.Places.{reach, answer, SettledWith};
 ghost use Rattle.walk.specs.Blocks.{at, Gives};
 ghost use Rattle.walk.specs.Steps.{tetra_of, fourth, Near};
-ghost use Rattle.walk.specs.Kept.{skip_of, reads_in, Counts};
+ghost use Rattle.walk.specs.Kept.{skip_of, reads_in};
+ghost use Rattle.walk.specs.Calls.{Ready, CubeOf, Counts};
 
-use crate::{Counted, Plan, cells, count, lanes, tetra};
-use cell::{Cell, Found};
+use crate::{Call, Plan, cells, count, lanes, tetra};
+use cell::Cell;
+use outcome::Refusal;
 
 // Output by output.
 fn each<F: Fn(usize) -> f32>(m: usize, out: &mut [f32], answer: F)
@@ -93,85 +96,65 @@ fn four(t: &[f32], p: Plan, h: usize, w: f32, alone: bool, m: usize, out: &mut [
     lanes::give(f, 0, m, out);
 }
 
-// One ink or two, or 16 for a NaN input: no answer is written before every input is a cell.
-pub(crate) fn one_or_two(
-    filling: &[u32; 16],
-    sizes: &[u8; 16],
-    m: usize,
-    table: &[f32],
-    inputs: &[f32],
-    answer: &mut [f32],
-) -> u32
-    requires promised { Promised filling.now sizes.now (length inputs.now) m × (length inputs.now ≤ 2) }
-    requires m_in_bounds { product (last_first (length inputs.now) sizes.now) * m ≤ length table.now }
-    requires room { m ≤ length answer.old }
-    ensures { SettledIn sizes.now m table.now inputs.now answer.old result answer.new }
+// One ink or two, with the reads: 2 or 4. No answer is written before every input is a cell.
+pub(crate) fn one_or_two(call: &Call, answer: &mut [f32]) -> Result<u32, Refusal>
+    requires ready { Ready call.now.filling.now call.now.sizes.now call.now.m call.now.table.now call.now.inputs.now }
+    requires few { length call.now.inputs.now ≤ 2 }
+    requires room { call.now.m ≤ length answer.old }
+    ensures settled { SettledWith (skip_of call.now.skipping) call.now.sizes.now call.now.m call.now.table.now call.now.inputs.now answer.old
+        (number_in result) answer.new }
+    ensures counted { Counts
+        (reads_in (skip_of call.now.skipping) (last_first (length call.now.inputs.now) call.now.sizes.now) call.now.inputs.now) result }
 {
-    let first = cells::ink(filling, sizes, inputs, 0);
-    let Found::At(c) = first else {
-        return 16;
-    };
-    if inputs.len() == 1 {
-        one(table, c, m, &mut answer[..m]);
-        return 0;
+    let c = call.ink(0)?;
+    if call.inputs.len() == 1 {
+        one(call.table, c, call.m, &mut answer[..call.m]);
+        return Ok(2);
     }
-    let second = cells::ink(filling, sizes, inputs, 1);
-    let Found::At(d) = second else {
-        return 16;
-    };
-    two(table, c, d, m, &mut answer[..m]);
-    0
+    let d = call.ink(1)?;
+    two(call.table, c, d, call.m, &mut answer[..call.m]);
+    Ok(4)
 }
 
-// Three inks or four, with the reads, or 16 for a NaN input.
-pub(crate) fn three_or_four(
-    filling: &[u32; 16],
-    sizes: &[u8; 16],
-    m: usize,
-    table: &[f32],
-    inputs: &[f32],
-    answer: &mut [f32],
-    skipping: bool,
-) -> Counted
-    requires promised { Promised filling.now sizes.now (length inputs.now) m × (3 ≤ length inputs.now) × (length inputs.now ≤ 4) }
-    requires m_in_bounds { product (last_first (length inputs.now) sizes.now) * m ≤ length table.now }
-    requires room { m ≤ length answer.old }
-    ensures settled_with { SettledWith (skip_of skipping) sizes.now m table.now inputs.now answer.old
-        result.refusal answer.new }
-    ensures reads { Counts
-        (reads_in (skip_of skipping) (last_first (length inputs.now) sizes.now) inputs.now) result }
+// The plan of the first three inks, and where their lowest corner stands.
+fn cube(call: &Call) -> Result<(Plan, usize), Refusal>
+    requires ready { Ready call.now.filling.now call.now.sizes.now call.now.m call.now.table.now call.now.inputs.now }
+    requires some { 3 ≤ length call.now.inputs.now }
+    ensures { CubeOf call.now.filling.now call.now.sizes.now call.now.inputs.now result }
 {
-    let first = cells::ink(filling, sizes, inputs, 0);
-    let Found::At(c) = first else {
-        return count::tally(16, 0);
-    };
-    let second = cells::ink(filling, sizes, inputs, 1);
-    let Found::At(d) = second else {
-        return count::tally(16, 0);
-    };
-    let third = cells::ink(filling, sizes, inputs, 2);
-    let Found::At(e) = third else {
-        return count::tally(16, 0);
-    };
+    let c = call.ink(0)?;
+    let d = call.ink(1)?;
+    let e = call.ink(2)?;
     let p = tetra::plan_of(c.x_n - c.x, d.x_n - d.x, e.x_n - e.x, c.w, d.w, e.w);
-    let at = c.x + d.x + e.x;
-    if inputs.len() == 3 {
-        three(&table[at..], p, m, &mut answer[..m]);
-        return count::tally(0, 6);
+    Ok((p, c.x + d.x + e.x))
+}
+
+// Three inks or four, with the reads.
+pub(crate) fn three_or_four(call: &Call, answer: &mut [f32]) -> Result<u32, Refusal>
+    requires ready { Ready call.now.filling.now call.now.sizes.now call.now.m call.now.table.now call.now.inputs.now }
+    requires few { (3 ≤ length call.now.inputs.now) × (length call.now.inputs.now ≤ 4) }
+    requires room { call.now.m ≤ length answer.old }
+    ensures settled { SettledWith (skip_of call.now.skipping) call.now.sizes.now call.now.m call.now.table.now call.now.inputs.now answer.old
+        (number_in result) answer.new }
+    ensures counted { Counts
+        (reads_in (skip_of call.now.skipping) (last_first (length call.now.inputs.now) call.now.sizes.now) call.now.inputs.now) result }
+{
+    let (p, at) = cube(call)?;
+    let m = call.m;
+    if call.inputs.len() == 3 {
+        three(&call.table[at..], p, m, &mut answer[..m]);
+        return Ok(6);
     }
-    let fourth = cells::ink(filling, sizes, inputs, 3);
-    let Found::At(h) = fourth else {
-        return count::tally(16, 0);
-    };
-    let places = cells::places(h.w, skipping);
+    let h = call.ink(3)?;
+    let alone = cells::skipped(h.w, call.skipping);
     four(
-        &table[at + h.x..],
+        &call.table[at + h.x..],
         p,
         h.x_n - h.x,
         h.w,
-        places == 0,
+        alone,
         m,
         &mut answer[..m],
     );
-    count::tally(0, count::reads_of(3 + places))
+    Ok(count::reads_of(3 + usize::from(!alone)))
 }

@@ -11,15 +11,19 @@ mod lanes;
 mod many;
 mod tetra;
 
-ghost use Rattle.std.specs.Prelude.{◌*◌, ◌≤◌, length};
-ghost use Rattle.lists.specs.Lists.{last_first, product};
+ghost use Rattle.std.specs.Prelude.{◌≤◌, length};
+ghost use Rattle.outcome.specs.Refused.{number_in};
+ghost use Rattle.lists.specs.Lists.{last_first};
 ghost use Rattle.layout.specs.Layout.{laid_of};
 ghost use Rattle.lookup.specs.Places.{Promised, SettledWith, Answered};
 ghost use Rattle.lookup.specs.Table.{Looked, LookedBySizes, LookedWith, LookedBySizesWith};
 ghost use Rattle.lookup.specs.Idle.{reads_at, LookedSkipping, LookedSkippingBySizes};
-ghost use Rattle.walk.specs.Kept.{skip_of, reads_in, Counts};
+ghost use Rattle.walk.specs.Count.{count_in};
+ghost use Rattle.walk.specs.Kept.{skip_of, reads_in};
+ghost use Rattle.walk.specs.Calls.{Ready, Counts};
 
 use layout::MultidimensionalLut;
+use outcome::Refusal;
 
 // Four neighbouring outputs of one node, or of one corner. LLVM keeps one in a vector register.
 #[derive(Clone, Copy)]
@@ -53,100 +57,80 @@ pub struct Plan {
     pub rz: f32,
 }
 
-// Where the lowest corner of all inks' cells stands, or that an input is NaN.
+// A call: each ink's filling size and size, first ink first, the outputs of a node, the table and the inputs. And whether an ink
+// from the fourth on whose weight is 0 is skipped.
+// Stays: `skipping` is a bool and no closure over weights, since with one each function down to `keep` would be generic, ask that
+// it may be called, and be compiled twice.
 #[derive(Clone, Copy)]
-pub enum Lowest {
-    At(usize),
-    NotANumber,
+pub struct Call<'a> {
+    pub filling: &'a [u32; 16],
+    pub sizes: &'a [u8; 16],
+    pub m: usize,
+    pub table: &'a [f32],
+    pub inputs: &'a [f32],
+    pub skipping: bool,
 }
 
-// A call's number, and how many nodes it read: 0 where it is refused.
-#[derive(Clone, Copy)]
-pub struct Counted {
-    pub refusal: u32,
-    pub reads: u32,
-}
-
-// The m answers and the reads, in a grid whose sizes and filling sizes are lent, or 16 for a NaN input.
-fn write(
-    filling: &[u32; 16],
-    sizes: &[u8; 16],
-    m: usize,
-    table: &[f32],
-    inputs: &[f32],
-    answer: &mut [f32],
-    skipping: bool,
-) -> Counted
-    requires promised { Promised filling.now sizes.now (length inputs.now) m }
-    requires m_in_bounds { product (last_first (length inputs.now) sizes.now) * m ≤ length table.now }
-    requires room { m ≤ length answer.old }
-    ensures settled_with { SettledWith (skip_of skipping) sizes.now m table.now inputs.now answer.old
-        result.refusal answer.new }
-    ensures reads { Counts
-        (reads_in (skip_of skipping) (last_first (length inputs.now) sizes.now) inputs.now) result }
+// The m answers, with the reads; a NaN input is refused.
+fn write(call: &Call, answer: &mut [f32]) -> Result<u32, Refusal>
+    requires ready { Ready call.now.filling.now call.now.sizes.now call.now.m call.now.table.now call.now.inputs.now }
+    requires room { call.now.m ≤ length answer.old }
+    ensures settled { SettledWith (skip_of call.now.skipping) call.now.sizes.now call.now.m call.now.table.now call.now.inputs.now answer.old
+        (number_in result) answer.new }
+    ensures counted { Counts
+        (reads_in (skip_of call.now.skipping) (last_first (length call.now.inputs.now) call.now.sizes.now) call.now.inputs.now) result }
 {
-    let n = inputs.len();
+    let n = call.inputs.len();
     if n <= 2 {
-        let refusal = few::one_or_two(filling, sizes, m, table, inputs, answer);
-        return count::tally(refusal, 2 * n as u32);
+        return few::one_or_two(call, answer);
     }
     if n <= 4 {
-        return few::three_or_four(filling, sizes, m, table, inputs, answer, skipping);
+        return few::three_or_four(call, answer);
     }
-    many::many(filling, sizes, m, table, inputs, answer, skipping)
+    many::many(call, answer)
 }
 
-// After an accepted layout: 6 a short table, 7 the number of inputs, 8 a short answer buffer, 16 a NaN input, and on 0
-// the answers and the reads.
-fn answered(
-    filling: &[u32; 16],
-    sizes: &[u8; 16],
-    n: usize,
-    m: usize,
-    table: &[f32],
-    inputs: &[f32],
-    answer: &mut [f32],
-    skipping: bool,
-) -> Counted
-    requires { Promised filling.now sizes.now n m }
-    ensures answered { Answered (skip_of skipping) (last_first n sizes.now) n m table.now inputs.now
-        answer.old result.refusal answer.new }
-    ensures reads { Counts (reads_in (skip_of skipping) (last_first n sizes.now) inputs.now) result }
+// After an accepted layout of n inks: a short table is refused, another number of inputs, a short answer buffer, a NaN input.
+fn answered(call: &Call, n: usize, answer: &mut [f32]) -> Result<u32, Refusal>
+    requires { Promised call.now.filling.now call.now.sizes.now n call.now.m }
+    ensures answered { Answered (skip_of call.now.skipping) (last_first n call.now.sizes.now) n call.now.m call.now.table.now call.now.inputs.now
+        answer.old (number_in result) answer.new }
+    ensures counted { Counts (reads_in (skip_of call.now.skipping) (last_first n call.now.sizes.now) call.now.inputs.now) result }
 {
-    let total = (filling[0] as u64) * (sizes[0] as u64);
-    let refusal = layout::length_refusal(total, n, table.len(), inputs.len());
-    if refusal != 0 {
-        return count::tally(refusal, 0);
+    let total = (call.filling[0] as u64) * (call.sizes[0] as u64);
+    layout::check_lengths(total, n, call.table.len(), call.inputs.len())?;
+    if answer.len() < call.m {
+        return Err(Refusal::ShortAnswer);
     }
-    if answer.len() < m {
-        return count::tally(8, 0);
-    }
-    write(filling, sizes, m, table, inputs, answer, skipping)
+    write(call, answer)
 }
 
-// By a record: 9, then 6, 7, 8, 16.
+// By a record: one that is no layout's is refused first.
 fn looked(
     lut: MultidimensionalLut,
     table: &[f32],
     inputs: &[f32],
     answer: &mut [f32],
     skipping: bool,
-) -> Counted
-    ensures looked_with { LookedWith (skip_of skipping) lut table.now inputs.now answer.old result.refusal
-        answer.new }
-    ensures reads { Counts (reads_at (skip_of skipping) lut inputs.now) result }
+) -> Result<u32, Refusal>
+    ensures looked { LookedWith (skip_of skipping) lut table.now inputs.now answer.old (number_in result) answer.new }
+    ensures counted { Counts (reads_at (skip_of skipping) lut inputs.now) result }
 {
     if !layout::is_layout(lut) {
-        return count::tally(9, 0);
+        return Err(Refusal::ForeignRecord);
     }
-    let filling = lut.grid_filling_size;
-    let sizes = lut.grid_sizes;
-    let n = lut.input_inks;
-    let m = lut.output_inks;
-    answered(&filling, &sizes, n, m, table, inputs, answer, skipping)
+    let call = Call {
+        filling: &lut.grid_filling_size,
+        sizes: &lut.grid_sizes,
+        m: lut.output_inks,
+        table,
+        inputs,
+        skipping,
+    };
+    answered(&call, lut.input_inks, answer)
 }
 
-// Lays out, then looks up: 1, 2, 3, 5, then 6, 7, 8, 16. No record is made, so there is none to test.
+// By sizes and counts: a layout that is none is refused first.
 fn looked_by_sizes(
     sizes: &[u8; 16],
     n: usize,
@@ -155,24 +139,34 @@ fn looked_by_sizes(
     inputs: &[f32],
     answer: &mut [f32],
     skipping: bool,
-) -> Counted
-    ensures looked_by_sizes_with { LookedBySizesWith (skip_of skipping) sizes.now n m table.now inputs.now
-        answer.old result.refusal answer.new }
-    ensures reads { Counts (reads_at (skip_of skipping) (laid_of sizes.now n m).lut inputs.now) result }
+) -> Result<u32, Refusal>
+    ensures looked { LookedBySizesWith (skip_of skipping) sizes.now n m table.now inputs.now answer.old (number_in result) answer.new }
+    ensures counted { Counts (reads_at (skip_of skipping) (laid_of sizes.now n m).lut inputs.now) result }
 {
     let mut filling = [1u32; 16];
-    let refusal = layout::filling_sizes(sizes, n, m, &mut filling);
-    if refusal != 0 {
-        return count::tally(refusal, 0);
-    }
-    answered(&filling, sizes, n, m, table, inputs, answer, skipping)
+    layout::filling_sizes(sizes, n, m, &mut filling)?;
+    let call = Call {
+        filling: &filling,
+        sizes,
+        m,
+        table,
+        inputs,
+        skipping,
+    };
+    answered(&call, n, answer)
 }
 
-// The lookup without recursion: its number, and on 0 the m answers in the first entries of `answer`.
-pub fn lookup(lut: MultidimensionalLut, table: &[f32], inputs: &[f32], answer: &mut [f32]) -> u32
-    ensures { Looked lut table.now inputs.now answer.old result answer.new }
+// The lookup without recursion: the m answers, in the first entries of `answer`.
+pub fn lookup(
+    lut: MultidimensionalLut,
+    table: &[f32],
+    inputs: &[f32],
+    answer: &mut [f32],
+) -> Result<(), Refusal>
+    ensures { Looked lut table.now inputs.now answer.old (number_in result) answer.new }
 {
-    looked(lut, table, inputs, answer, false).refusal
+    looked(lut, table, inputs, answer, false)?;
+    Ok(())
 }
 
 // Lays out, then looks up without recursion.
@@ -183,23 +177,22 @@ pub fn lookup_by_sizes(
     table: &[f32],
     inputs: &[f32],
     answer: &mut [f32],
-) -> u32
-    ensures { LookedBySizes sizes.now n m table.now inputs.now answer.old result
-        answer.new }
+) -> Result<(), Refusal>
+    ensures { LookedBySizes sizes.now n m table.now inputs.now answer.old (number_in result) answer.new }
 {
-    looked_by_sizes(sizes, n, m, table, inputs, answer, false).refusal
+    looked_by_sizes(sizes, n, m, table, inputs, answer, false)?;
+    Ok(())
 }
 
-// The lookup with skipping: where an ink from the fourth on has weight 0, only the lower part is visited. The lookup's number,
-// how many nodes it read, and on 0 the m answers.
+// The lookup with skipping: where an ink from the fourth on has weight 0, only the lower part is visited. Answers how many nodes it
+// read.
 pub fn skipping(
     lut: MultidimensionalLut,
     table: &[f32],
     inputs: &[f32],
     answer: &mut [f32],
-) -> Counted
-    ensures { LookedSkipping lut table.now inputs.now answer.old result.refusal result.reads
-        answer.new }
+) -> Result<u32, Refusal>
+    ensures { LookedSkipping lut table.now inputs.now answer.old (number_in result) (count_in result) answer.new }
 {
     looked(lut, table, inputs, answer, true)
 }
@@ -212,9 +205,8 @@ pub fn skipping_by_sizes(
     table: &[f32],
     inputs: &[f32],
     answer: &mut [f32],
-) -> Counted
-    ensures { LookedSkippingBySizes sizes.now n m table.now inputs.now answer.old
-        result.refusal result.reads answer.new }
+) -> Result<u32, Refusal>
+    ensures { LookedSkippingBySizes sizes.now n m table.now inputs.now answer.old (number_in result) (count_in result) answer.new }
 {
     looked_by_sizes(sizes, n, m, table, inputs, answer, true)
 }

@@ -1,13 +1,16 @@
 // Five inks and more: all corners of the inks from the fourth on into a work array, then pairs folded, ink 4 first.
 ghost use Rattle.std.specs.Prelude.{◌≡◌, [], ℕ, ◌+◌, ◌-◌, ◌*◌, ◌^◌, ◌≤◌, ◌<◌, length, get_or};
-ghost use Rattle.lists.specs.Lists.{last_first, product};
-ghost use Rattle.lookup.specs.Places.{answer, reach, Promised, SettledWith};
+ghost use Rattle.outcome.specs.Refused.{number_in};
+ghost use Rattle.lists.specs.Lists.{last_first};
+ghost use Rattle.lookup.specs.Places.{answer, reach, SettledWith};
 ghost use Rattle.walk.specs.Blocks.{Holds, Gives};
 ghost use Rattle.walk.specs.Steps.{steps_at, Weighed};
 ghost use Rattle.walk.specs.Walk.{above, blended, Distant};
-ghost use Rattle.walk.specs.Kept.{skip_of, reads_in, Counts};
+ghost use Rattle.walk.specs.Kept.{skip_of, reads_in};
+ghost use Rattle.walk.specs.Calls.{Ready, Counts};
 
-use crate::{Axis, Counted, Four, Lowest, cells, corners, count, fold, lanes};
+use crate::{Axis, Call, Four, cells, corners, count, fold, lanes};
+use outcome::Refusal;
 
 // A block of three inks and k more in a part of the table: all corners, then the folds.
 fn inner(
@@ -167,30 +170,20 @@ fn blend(t: &[f32], n: usize, axes: &[Axis; 16], m: usize, out: &mut [f32])
     highest(t, axes, n - 9, m, out)
 }
 
-// The m answers and the reads, or 16 for a NaN input.
-pub(crate) fn many(
-    filling: &[u32; 16],
-    sizes: &[u8; 16],
-    m: usize,
-    table: &[f32],
-    inputs: &[f32],
-    answer: &mut [f32],
-    skipping: bool,
-) -> Counted
-    requires promised { Promised filling.now sizes.now (length inputs.now) m × (3 ≤ length inputs.now) }
-    requires m_in_bounds { product (last_first (length inputs.now) sizes.now) * m ≤ length table.now }
-    requires room { m ≤ length answer.old }
-    ensures settled_with { SettledWith (skip_of skipping) sizes.now m table.now inputs.now answer.old
-        result.refusal answer.new }
-    ensures reads { Counts
-        (reads_in (skip_of skipping) (last_first (length inputs.now) sizes.now) inputs.now) result }
+// Three inks and more, with the reads.
+pub(crate) fn many(call: &Call, answer: &mut [f32]) -> Result<u32, Refusal>
+    requires ready { Ready call.now.filling.now call.now.sizes.now call.now.m call.now.table.now call.now.inputs.now }
+    requires some { 3 ≤ length call.now.inputs.now }
+    requires room { call.now.m ≤ length answer.old }
+    ensures settled { SettledWith (skip_of call.now.skipping) call.now.sizes.now call.now.m call.now.table.now call.now.inputs.now answer.old
+        (number_in result) answer.new }
+    ensures counted { Counts
+        (reads_in (skip_of call.now.skipping) (last_first (length call.now.inputs.now) call.now.sizes.now) call.now.inputs.now) result }
 {
     let mut axes = [Axis { step: 0, w: 0.0 }; 16];
-    let lowest = cells::cells(filling, sizes, inputs, &mut axes);
-    let Lowest::At(at) = lowest else {
-        return count::tally(16, 0);
-    };
-    let n = cells::keep(&mut axes, inputs.len(), skipping);
-    blend(&table[at..], n, &axes, m, &mut answer[..m]);
-    count::tally(0, count::reads_of(n))
+    let at = call.cells(&mut axes)?;
+    let n = cells::keep(&mut axes, call.inputs.len(), call.skipping);
+    let m = call.m;
+    blend(&call.table[at..], n, &axes, m, &mut answer[..m]);
+    Ok(count::reads_of(n))
 }
