@@ -1,4 +1,5 @@
--- What reading an element owes, case by case: `clut-refused`, `clut-units`, by the number; `short-element`, `layout-number`, `data-number`, where the number comes from.
+-- What reading an element owes, case by case: `clut-refused`, by the number; `layout-refused`, `units-read`, by what the layout answered; `short-element`, `layout-number`,
+-- `data-number`, where the number comes from.
 -- `all-passed`, `data-holds`: what the checks give. `clut-is-layout`: the record is a layout's. `clut-number`: the number in the answer; `clut-length`: the buffer's length stays. Assumes nothing.
 use Prim.Native.Nat.{ℕ, zero, suc, ◌-◌, ◌*◌, ◌≤◌, ◌<◌}
 use native.Mathlib.Omega.{arith}
@@ -10,7 +11,7 @@ use lib.Dec.{ltb}
 use lib.Ieee.{Float}
 use lib.ListN.{length, get_or, take}
 use borrow.Author.Tests.{lt-ltb, le-ltb, ltb-false, not-false}
-use Rattle.std.specs.Prelude.{Err}
+use Rattle.std.specs.Prelude.{Ok, Err}
 use Rattle.outcome.specs.Outcome.{or_else, on_done}
 use Rattle.outcome.specs.declared.Refusal.{Refusal}
 use Rattle.outcome.specs.Refused.{number_of}
@@ -20,7 +21,7 @@ use Rattle.lists.specs.Buffer.{left}
 use Rattle.lists.proofs.Buffer.{unwritten, length-left}
 use Rattle.lists.proofs.Lists.{length-tabulate, tabulate-bytes, one_of, rest-is}
 use Rattle.layout.specs.declared.MultidimensionalLut.{MultidimensionalLut}
-use Rattle.layout.specs.Layout.{Laid, laid_in, refused_by, IsLayout, entries}
+use Rattle.layout.specs.Layout.{Laid, laid_in, laid_of, refused_by, LaidBy, IsLayout, entries}
 use Rattle.layout.proofs.Laws.{first-filling}
 use Rattle.layout.proofs.BySizes.{laid-is-layout}
 use Rattle.clut.specs.Units.{is_precision, entry_at, data_refusal, UnitsRead}
@@ -71,29 +72,30 @@ module _ (element : List ℕ) (n m : ℕ) where
         neither (layout_of element n m).refusal (data_refusal (precision_of element) (length (data_of element)) (total_of element n m) room)
         (passed (ltb (length element) 20) 13 _ (λ z. omega arith) e).1
 
--- the layout's refusal
-pub layout-refused : (element : List ℕ) (n m : ℕ) (old : List Float) (e : Refusal) → 20 ≤ length element → refused_by (number_of e) ≡ layout_of element n m
-    → ClutRead element n m old (laid_in (Err e)) old
-unfolding refused_by
-layout-refused element n m old e long laid =
-    let number : number_of e ≡ (layout_of element n m).refusal = ap (λ (l : Laid). l.refusal) laid in
-    clut-refused element n m old (number_of e) (not_done e) (number ∙ layout-number element n m (length old) long (λ z. not_done e (number ∙ z))) _ refl
+-- ---- what the layout of the element's sizes answered
 
--- ---- the element's layout was accepted, with this record
+module _ (element : List ℕ) (n m : ℕ) (old : List Float) (long : 20 ≤ length element) (sizes : List ℕ) (its : sizes ≡ sizes_of element) where
+  -- a refusal
+  pub layout-refused : (e : Refusal) → LaidBy sizes n m (laid_in (Err e)) → ClutRead element n m old (laid_in (Err e)) old
+  unfolding refused_by
+  layout-refused e laid =
+      let number : number_of e ≡ (layout_of element n m).refusal = λ i. ((laid.answer ∙ ap (λ (s : List ℕ). laid_of s n m) its) i).refusal in
+      clut-refused element n m old (number_of e) (not_done e) (number ∙ layout-number element n m (length old) long (λ z. not_done e (number ∙ z))) _ refl
 
-module _ (element : List ℕ) (n m : ℕ) (old : List Float) (lut : MultidimensionalLut) (is : IsLayout lut) (laid : record { refusal = 0; lut = lut } ≡ layout_of element n m) where
-  -- what `read_units` answered then, k, of as many values as entries
-  pub units-read : 20 ≤ length element → (count k : ℕ) (now : List Float) → count ≡ get_or lut.grid_filling_size 0 0 * get_or lut.grid_sizes 0 0
+  -- a record: then what `read_units` answered, k, of as many values as entries
+  pub units-read : (lut : MultidimensionalLut) → LaidBy sizes n m (laid_in (Ok lut)) → (count k : ℕ) (now : List Float)
+      → count ≡ get_or lut.grid_filling_size 0 0 * get_or lut.grid_sizes 0 0
       → UnitsRead (take (length element - 20) (data_of element)) (precision_of element) count old k now
-      → (r : Laid) → r ≡ on_done k (layout_of element n m) (refused_by k) → ClutRead element n m old r now
-  units-read long count k now counted units r answer =
-      let total : count ≡ total_of element n m = counted ∙ first-filling lut is ∙ ap (λ (l : Laid). entries l.lut) laid in
+      → (r : Laid) → r ≡ on_done k (laid_in (Ok lut)) (refused_by k) → ClutRead element n m old r now
+  units-read lut by count k now counted units r answer =
+      let laid : laid_in (Ok lut) ≡ layout_of element n m = by.answer ∙ ap (λ (s : List ℕ). laid_of s n m) its in
+      let total : count ≡ total_of element n m = counted ∙ first-filling lut (by.accepted refl) ∙ ap (λ (l : Laid). entries l.lut) laid in
       let number : k ≡ refusal element n m (length old) =
       units.number
       ∙ (λ i. data_refusal (precision_of element) (length (rest-is 20 element i)) (total i) (length old))
       ∙ data-number element n m (length old) long (ap (λ (l : Laid). l.refusal) (sym laid)) in
       record {
-        answer = answer ∙ ap (λ (j : ℕ). on_done j (layout_of element n m) (refused_by j)) number;
+        answer = answer ∙ (λ i. on_done (number i) (laid i) (refused_by (number i)));
         table = units.entries ∙ (λ i. left (number i) (entry_at (precision_of element) (rest-is 20 element i)) (total i) old);
       }
 

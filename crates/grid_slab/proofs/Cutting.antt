@@ -1,24 +1,25 @@
--- What a cut owes, case by case: `cut-refused`, `cut-done`, by the number; and what a cut gives that was not refused: `cut-passed`, what was asked for;
--- `cut-entry`, the buffer holds the slab; `cut-exact`, one of that length is the slab. `slab-cut-length`: the buffer's length stays. Assumes nothing.
-use Prim.Native.Nat.{ℕ, zero, suc, ◌-◌, ◌*◌, ◌/◌, ◌≤◌, ◌<◌}
+-- What a cut's checks give: `checked-passed`, `passed-done`; its runs: `can-cut`, `runs_fit`, `runs-slab`; and what a cut gives that was not refused: `cut-passed`,
+-- what was asked for; `cut-entry`, the buffer holds the slab; `cut-exact`, one of that length is the slab. `slab-cut-length`: the buffer's length stays. Assumes nothing.
+use Prim.Native.Nat.{ℕ, ◌-◌, ◌*◌, ◌/◌, ◌≤◌, ◌<◌}
 use mathlib.Core.Path.{◌≡◌, refl, sym, ap, ◌∙◌, subst}
-use mathlib.Core.Bool.{Bool, true, false, not, ◌&&◌, ◌||◌}
+use mathlib.Core.Bool.{true, false, not, ◌||◌}
 use mathlib.Core.List.{List}
-use native.Mathlib.Nat.{mul_comm, mul_assoc, mul-pos, mul-div_cancel, le-mul_of_pos_right}
+use native.Mathlib.Nat.{mul_comm, mul_assoc, mul-pos, mul-div_cancel}
 use native.Mathlib.Omega.{arith}
-use lib.Dec.{leb, ltb, eqb}
+use lib.Dec.{ltb, eqb}
 use lib.Ieee.{Float, nan}
 use lib.Ieee.Positive.{first_pos}
 use lib.ListN.{length, get_or}
 use lib.Seq.{ext_get_or}
-use borrow.Author.Tests.{not-false, leb-true, ltb-true, ltb-false, eqb-false, le-leb, lt-ltb, le-ltb, ne_eqb}
+use Rattle.std.proofs.lemmas.Bool.Decides.{nat_tests}
+use borrow.Author.Tests.{not-false, ltb-true, ltb-false, le-leb, lt-ltb, le-ltb, ne_eqb}
 use Rattle.outcome.proofs.Refused.{passed}
 use Rattle.lists.specs.Buffer.{written}
-use Rattle.lists.proofs.Lists.{and_left, and_right, product-pos}
-use Rattle.lists.proofs.Buffer.{length-left, unwritten, written_at, written_same}
+use Rattle.lists.proofs.Lists.{product-pos}
+use Rattle.lists.proofs.Buffer.{length-left, written_at, written_same}
 use Rattle.layout.specs.declared.MultidimensionalLut.{MultidimensionalLut}
-use Rattle.layout.specs.Layout.{limit, IsLayout, ink_sizes, entries}
-use Rattle.layout.proofs.Laws.{outputs-from, entries_fit, sizes-above, filling-after}
+use Rattle.layout.specs.Layout.{IsLayout, ink_sizes, entries}
+use Rattle.layout.proofs.Laws.{outputs-from, sizes-above, filling-after}
 use Rattle.grid_slab.specs.Slab.{size_of, fewer, slab, is_ink, refusal, SlabCut}
 use Rattle.grid_slab.specs.Runs.{run_of, turns_of, runs_of, cut_entry, CanCut, Fit, Checked}
 use Rattle.grid_slab.proofs.Slabs.{slab-length, table-turns, slab-turns, slab-place}
@@ -37,24 +38,14 @@ pub record Passed (lut : MultidimensionalLut) (table j k room : ℕ) : Type 0 wh
   pub in-grid : k < size_of lut j
   pub holds : entries (fewer lut j) ≤ room
 
--- the test of 11 fails where ink j is one of two or more, and only there
-both : (a b : Bool) → (not a || b) ≡ false → (a ≡ true) × (b ≡ false)
-both true b e = (refl, e)
-both false b e = absurd (let no : ◌≡◌ {A = ℕ} 0 1 = cc in omega arith)
-
-pub may-cut : (j n : ℕ) → (not (is_ink j n) || eqb n 1) ≡ false → (1 ≤ j) × (j ≤ n) × (2 ≤ n)
+pub is-ink : (j n : ℕ) → is_ink j n ≡ true → (1 ≤ j) × (j ≤ n)
 unfolding is_ink
-may-cut j n e =
-    let ink = both (leb 1 j && leb j n) (eqb n 1) e in
-    let from = leb-true 1 j (and_left (leb 1 j) (leb j n) ink.0) in
-    let to = leb-true j n (and_right (leb 1 j) (leb j n) ink.0) in
-    let more = eqb-false n 1 ink.1 in
-    (from, to, two n j from to more)
-  where
-    two : (n j : ℕ) → 1 ≤ j → j ≤ n → (n ≡ 1 → ⊥) → 2 ≤ n
-    two zero j from to more = absurd (omega arith)
-    two (suc zero) j from to more = absurd (more refl)
-    two (suc (suc n)) j from to more = omega arith
+is-ink j n ink = (grind (arith, nat_tests), grind (arith, nat_tests))
+
+-- where the test of 11 fails
+may-cut : (j n : ℕ) → (not (is_ink j n) || eqb n 1) ≡ false → (1 ≤ j) × (j ≤ n) × (2 ≤ n)
+unfolding is_ink
+may-cut j n e = (grind (arith, nat_tests), grind (arith, nat_tests), grind (arith, nat_tests))
 
 pub checked-passed : (lut : MultidimensionalLut) (table j k room r : ℕ) → Checked lut table j k room r → r ≡ 0 → Passed lut table j k room
 unfolding refusal
@@ -108,14 +99,8 @@ module _ (lut : MultidimensionalLut) (j : ℕ) (can : CanCut lut j) where
       ∙ ap (λ (x : ℕ). turns_of lut j * x) (mul_comm (size_of lut j) (run_of lut j))
       ∙ (λ i. turns_of lut j * (sym run_is i * size_of lut j))
 
-  turns-some : 0 < turns_of lut j
-  turns-some = first_pos (turns_of lut j) turn (omega (arith, whole-turns, entries-some))
-
   pub turn-some : 0 < turn
   turn-some = first_pos turn (turns_of lut j) (omega (arith, mul_comm (turns_of lut j) turn, whole-turns, entries-some))
-
-  pub turn-within : turn ≤ limit
-  turn-within = omega (arith, le-mul_of_pos_right turn turns-some, mul_comm (turns_of lut j) turn, whole-turns, entries_fit lut can.is)
 
   pub turns-are : entries lut / turn ≡ turns_of lut j
   turns-are = ap (λ (x : ℕ). x / turn) whole-turns ∙ mul-div_cancel (turns_of lut j) turn-some
@@ -140,13 +125,6 @@ module _ (lut : MultidimensionalLut) (table : List Float) (j k : ℕ) (old : Lis
   runs-slab p =
       ap (λ (n : ℕ). written (cut_entry table (runs_of lut j k)) n old) (sym (slab-turns lut p.is p.two j p.from p.to))
       ∙ written_same _ _ (entries (fewer lut j)) old (λ e l. sym (slab-place lut p.is p.two j p.from p.to k p.in-grid table e l))
-
-  module _ (r : ℕ) (checked : Checked lut (length table) j k (length old) r) where
-    pub cut-refused : (r ≡ 0 → ⊥) → SlabCut lut table j k old r old
-    cut-refused some = record { laid = checked.laid; decides = checked.decides; number = checked.number; entries = unwritten r _ _ old some refl }
-
-    pub cut-done : r ≡ 0 → (now : List Float) → now ≡ written (λ e. get_or (slab lut table j k) e nan) (entries (fewer lut j)) old → SlabCut lut table j k old 0 now
-    cut-done none now is = record { laid = checked.laid; decides = checked.decides; number = sym none ∙ checked.number; entries = is }
 
   -- ---- a cut that was not refused
   module _ (now : List Float) (cut : SlabCut lut table j k old 0 now) where

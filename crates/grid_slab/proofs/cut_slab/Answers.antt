@@ -2,7 +2,7 @@
 use Rattle.std.proofs.Common.{◌*◌, refl, sym, ◌∙◌, subst, length}
 use Rattle.lists.specs.Buffer.{written}
 use Rattle.grid_slab.specs.Runs.{Fit, cut_entry}
-use Rattle.grid_slab.proofs.Cutting.{checked-passed, can-cut, runs_fit, runs-slab, cut-done}
+use Rattle.grid_slab.proofs.Cutting.{checked-passed, can-cut, runs_fit, runs-slab}
 use Rattle.grid_slab.proofs.cut_slab.Goals as goal
 
 pub of-requires : goal.of-requires
@@ -16,7 +16,14 @@ cut-requires c =
 pub returns : goal.returns
 returns c =
     let a = c.args in
-    let p = checked-passed _ _ _ _ _ _ c.in_ok-check.ensures refl in
+    let checked = c.in_ok-check.ensures in
     let runs = c.of.ensures in
-    cut-done a.lut a.table.now a.j a.k a.slab.now 0 c.in_ok-check.ensures refl _
-    (c.cut.ensures ∙ (λ i. written (cut_entry a.table.now (runs i)) ((runs i).turns * (runs i).run) a.slab.now) ∙ runs-slab _ _ _ _ _ p)
+    record {
+      laid = checked.laid;
+      decides = checked.decides;
+      number = checked.number;
+      entries =
+          c.cut.ensures
+          ∙ (λ i. written (cut_entry a.table.now (runs i)) ((runs i).turns * (runs i).run) a.slab.now)
+          ∙ runs-slab _ _ _ _ _ (checked-passed _ _ _ _ _ _ checked refl);
+    }

@@ -1,11 +1,12 @@
 -- Each test is the definition's, and a line's share of the whole table is the slab.
-use Rattle.std.proofs.Common.{◌≡◌, ℕ, ◌-◌, ◌≤◌, ◌/◌, true, arith, ap, sym, ◌∙◌}
+use Rattle.std.proofs.Common.{◌≡◌, ℕ, ◌-◌, ◌/◌, true, arith, ap, sym, ◌∙◌}
 use Rattle.std.proofs.lemmas.Bool.Decides.{nat_tests}
 use Rattle.layout.specs.Layout.{IsLayout, entries}
 use Rattle.layout.specs.declared.MultidimensionalLut.{MultidimensionalLut}
 use Rattle.layout.proofs.Laws.{inks-to, first-filling, size-from}
 use Rattle.grid_slab.specs.Slab.{size_of, fewer, is_ink, refusal}
 use Rattle.grid_slab.proofs.Fewer.{fewer-share}
+use Rattle.grid_slab.proofs.Cutting.{is-ink}
 use Rattle.grid_slab.proofs.check.check.Goals as goal
 
 pub returns-then-not-is_layout : goal.returns-then-not-is_layout
@@ -24,20 +25,11 @@ returns-then-not-is_ink c =
     let total = first-filling _ (c.is_layout.ensures.holds c.if-not-is_layout.false) in
     record { laid = c.is_layout.result; decides = c.is_layout.ensures; number = grind (arith, nat_tests) }
 
--- an ink is one of fifteen
-from : (j n : ℕ) → is_ink j n ≡ true → 1 ≤ j
-unfolding is_ink
-from j n ink = grind (arith, nat_tests)
-
-to : (j n : ℕ) → is_ink j n ≡ true → j ≤ n
-unfolding is_ink
-to j n ink = grind (arith, nat_tests)
-
 pub overflow_sub-lines : goal.overflow_sub-lines
-overflow_sub-lines c = omega (arith, from _ _ (sym c.is_ink.ensures ∙ c.if-not-is_ink.false))
+overflow_sub-lines c = omega (arith, is-ink _ _ (sym c.is_ink.ensures ∙ c.if-not-is_ink.false))
 
 pub bounds-sizes-j : goal.bounds-sizes-j
-bounds-sizes-j c = omega (arith, to _ _ (sym c.is_ink.ensures ∙ c.if-not-is_ink.false), inks-to _ (c.is_layout.ensures.holds c.if-not-is_layout.false))
+bounds-sizes-j c = omega (arith, is-ink _ _ (sym c.is_ink.ensures ∙ c.if-not-is_ink.false), inks-to _ (c.is_layout.ensures.holds c.if-not-is_layout.false))
 
 pub returns-then-lines-k : goal.returns-then-lines-k
 unfolding refusal
@@ -48,9 +40,8 @@ returns-then-lines-k c =
 -- the slab's total
 share : (lut : MultidimensionalLut) (j t : ℕ) → IsLayout lut → is_ink j lut.input_inks ≡ true → (lut.input_inks ≡ 1 → ⊥) → t ≡ entries lut → t / size_of lut j ≡ entries (fewer lut j)
 share lut j t is ink more total =
-    let above = from j lut.input_inks ink in
-    let below = to j lut.input_inks ink in
-    ap (λ (t : ℕ). t / size_of lut j) total ∙ fewer-share lut is (omega arith) j above below (size-from lut is (j - 1) (omega arith))
+    let of = is-ink j lut.input_inks ink in
+    ap (λ (t : ℕ). t / size_of lut j) total ∙ fewer-share lut is (omega arith) j of.0 of.1 (size-from lut is (j - 1) (omega arith))
 
 pub returns-then-room-total : goal.returns-then-room-total
 unfolding refusal
