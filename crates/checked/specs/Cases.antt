@@ -6,11 +6,11 @@ use Rattle.binary32.specs.Numbers.{of_whole}
 use Rattle.outcome.specs.Outcome.{on_done}
 use Rattle.lists.specs.Lists.{tabulate}
 use Rattle.layout.specs.Layout.{laid_of, entries}
-use Rattle.layout.specs.declared.Laid.{Laid}
+use Rattle.layout.specs.Layout.{Laid}
 use Rattle.lookup.specs.Table as Table
 use Rattle.cell.specs.declared.Cell.{Cell}
 use Rattle.weights.specs.Rule.{ranged_cell}
-use Rattle.weights.specs.declared.RangedCell.{RangedCell}
+use Rattle.weights.specs.Rule.{RangedCell}
 use Rattle.cubes.specs.Blends.{Blend, pyramid, prism, trilinear}
 use Rattle.cubes.specs.Cube as Cube
 

@@ -1,32 +1,27 @@
--- Entries written one after another: `room_of`, the bytes of value e are there; `one_more`, one entry more; `four-left`, four are left where the count and a
--- multiple of four differ above the last two bits. Assumes nothing.
-use Prim.Native.Nat.{ℕ, ◌+◌, ◌-◌, ◌*◌, ◌/◌, ◌%◌, ◌≤◌, ◌<◌}
-use mathlib.Core.Path.{◌≡◌, sym, ap, ◌∙◌}
-use mathlib.Core.List.{List}
-use native.Mathlib.Nat.{le_trans, le_of_eq, mul-suc, mul-le-mul_left}
-use native.Mathlib.Decide.{dec_le}
-use native.Mathlib.Omega.{arith}
-use lib.Bits.{bit_xor, xor_block, xor_self, xor_zero_r}
-use lib.Ieee.{Float}
-use lib.ListN.{set}
-use Rattle.lists.specs.Buffer.{written}
-use Rattle.lists.proofs.Buffer.{written_next}
+-- A value by its bytes: `value-one`, `value-two`. Assumes nothing.
+use Rattle.std.proofs.Common.{◌≡◌, ℕ, suc, ◌+◌, ◌*◌, ◌≤◌, ◌<◌, List, [], ◌∷◌, length, get_or, take, drop, arith, ap, ◌∙◌, length-drop, get_or-drop}
+use Rattle.lists.specs.Bytes.{big_endian}
+use Rattle.clut.specs.Units.{value_at}
 
-pub room_of : (width e count bytes : ℕ) → e < count → width * count ≤ bytes → width * e + width ≤ bytes
-room_of width e count bytes h l = le_trans (le_of_eq (sym (mul-suc width e))) (le_trans (mul-le-mul_left width h) l)
+one : (xs : List ℕ) → 1 ≤ length xs → big_endian (take 1 xs) ≡ get_or xs 0 0
+unfolding big_endian
+one [] h = absurd (omega arith)
+one (x ∷ xs) h = omega arith
 
-pub one_more : (f : ℕ → Float) (k : ℕ) (old : List Float) (next : ℕ) (x : Float) → x ≡ f k → next ≡ k + 1 → (now : List Float) → now ≡ written f k old → set now k x ≡ written f next old
-one_more f k old next x is after now h = (λ i. set (h i) k (is i)) ∙ written_next f k old ∙ ap (λ (n : ℕ). written f n old) (sym after)
+two : (xs : List ℕ) → 2 ≤ length xs → big_endian (take 2 xs) ≡ get_or xs 0 0 * 256 + get_or xs 1 0
+unfolding big_endian
+two [] h = absurd (omega arith)
+two (x ∷ []) h = absurd (omega arith)
+two (x ∷ (y ∷ xs)) h = omega arith
 
-near : (count e : ℕ) → e % 4 ≡ 0 → e ≤ count → count < e + 4 → bit_xor count e ≡ count - e
-near count e whole from below =
-    let rest = count - e in
-    let up : count ≡ e / 4 * 4 + rest = omega arith in
-    let here : e ≡ e / 4 * 4 + 0 = omega arith in
-    (λ i. bit_xor (up i) (here i))
-    ∙ xor_block 2 (e / 4) (e / 4) rest 0 (omega arith) (omega arith)
-    ∙ (λ i. xor_self (e / 4) i * 4 + xor_zero_r rest i)
-    ∙ omega arith
+module _ (bytes : List ℕ) (e : ℕ) where
+  pub value-one : 1 * e + 1 ≤ length bytes → value_at 1 bytes e ≡ get_or bytes e 0
+  unfolding value_at
+  value-one h = one (drop (1 * e) bytes) (omega (arith, length-drop (1 * e) bytes)) ∙ get_or-drop (1 * e) bytes 0 0 ∙ ap (λ (i : ℕ). get_or bytes i 0) (omega arith)
 
-pub four-left : (count e : ℕ) → e % 4 ≡ 0 → e ≤ count → 3 < bit_xor count e → e + 4 ≤ count
-four-left count e whole from differ = elim (dec_le (e + 4) count) [ yes h ↦ h | no h ↦ absurd (omega (arith, near count e whole from (omega arith))) ]
+  pub value-two : 2 * e + 2 ≤ length bytes → value_at 2 bytes e ≡ get_or bytes (2 * e) 0 * 256 + get_or bytes (2 * e + 1) 0
+  unfolding value_at
+  value-two h =
+      two (drop (2 * e) bytes) (omega (arith, length-drop (2 * e) bytes))
+      ∙ (λ i. get_or-drop (2 * e) bytes 0 0 i * 256 + get_or-drop (2 * e) bytes 1 0 i)
+      ∙ ap (λ (i : ℕ). get_or bytes i 0 * 256 + get_or bytes (2 * e + 1) 0) (omega arith)

@@ -1,6 +1,6 @@
 -- What reading an element owes, case by case: `clut-refused`, `clut-units`, by the number; `short-element`, `layout-number`, `data-number`, where the number comes from.
 -- `all-passed`, `data-holds`: what the checks give. `clut-is-layout`: the record is a layout's. `clut-number`: the number in the answer; `clut-length`: the buffer's length stays. Assumes nothing.
-use Prim.Native.Nat.{ℕ, zero, suc, ◌*◌, ◌≤◌, ◌<◌}
+use Prim.Native.Nat.{ℕ, zero, suc, ◌-◌, ◌*◌, ◌≤◌, ◌<◌}
 use native.Mathlib.Omega.{arith}
 use mathlib.Core.Path.{◌≡◌, refl, sym, ap, ◌∙◌}
 use mathlib.Core.Bool.{true, not}
@@ -8,15 +8,20 @@ use mathlib.Core.Logic.{⊎_elim}
 use mathlib.Core.List.{List}
 use lib.Dec.{ltb}
 use lib.Ieee.{Float}
-use lib.ListN.{length, get_or}
+use lib.ListN.{length, get_or, take}
 use borrow.Author.Tests.{lt-ltb, le-ltb, ltb-false, not-false}
+use Rattle.std.specs.Prelude.{Err}
 use Rattle.outcome.specs.Outcome.{or_else, on_done}
+use Rattle.outcome.specs.declared.Refusal.{Refusal}
+use Rattle.outcome.specs.Refused.{number_of}
+use Rattle.outcome.proofs.Numbers.{not_done}
 use Rattle.outcome.proofs.Refused.{refused-first, kept, neither, passed}
 use Rattle.lists.specs.Buffer.{left}
 use Rattle.lists.proofs.Buffer.{unwritten, length-left}
-use Rattle.lists.proofs.Lists.{length-tabulate, tabulate-bytes, one_of}
-use Rattle.layout.specs.declared.Laid.{Laid}
-use Rattle.layout.specs.Layout.{refused_by, IsLayout}
+use Rattle.lists.proofs.Lists.{length-tabulate, tabulate-bytes, one_of, rest-is}
+use Rattle.layout.specs.declared.MultidimensionalLut.{MultidimensionalLut}
+use Rattle.layout.specs.Layout.{Laid, laid_in, refused_by, IsLayout, entries}
+use Rattle.layout.proofs.Laws.{first-filling}
 use Rattle.layout.proofs.BySizes.{laid-is-layout}
 use Rattle.clut.specs.Units.{is_precision, entry_at, data_refusal, UnitsRead}
 use Rattle.clut.specs.Clut.{sizes_of, precision_of, data_of, layout_of, total_of, refusal, ClutRead}
@@ -32,16 +37,6 @@ module _ (element : List ℕ) (n m : ℕ) where
         record {
           answer = zeros ∙ ap refused_by is ∙ kept number (layout_of element n m) (refused_by number) refused is;
           table = unwritten number (entry_at (precision_of element) (data_of element)) (total_of element n m) old refused is;
-        }
-
-    -- what `read_units` answered, k, where the element has a header and its layout is accepted
-    pub clut-units : (k : ℕ) (now : List Float) → UnitsRead (data_of element) (precision_of element) (total_of element n m) old k now
-        → data_refusal (precision_of element) (length (data_of element)) (total_of element n m) (length old) ≡ number
-        → (r : Laid) → r ≡ on_done k (layout_of element n m) (refused_by k) → ClutRead element n m old r now
-    clut-units k now units is r answer =
-        record {
-          answer = answer ∙ ap (λ (j : ℕ). on_done j (layout_of element n m) (refused_by j)) (units.number ∙ is);
-          table = units.entries ∙ ap (λ (j : ℕ). left j (entry_at (precision_of element) (data_of element)) (total_of element n m) old) (units.number ∙ is);
         }
 
   -- the layout's record is a layout's, where the element's entries are bytes
@@ -75,6 +70,32 @@ module _ (element : List ℕ) (n m : ℕ) where
     all-passed e =
         neither (layout_of element n m).refusal (data_refusal (precision_of element) (length (data_of element)) (total_of element n m) room)
         (passed (ltb (length element) 20) 13 _ (λ z. omega arith) e).1
+
+-- the layout's refusal
+pub layout-refused : (element : List ℕ) (n m : ℕ) (old : List Float) (e : Refusal) → 20 ≤ length element → refused_by (number_of e) ≡ layout_of element n m
+    → ClutRead element n m old (laid_in (Err e)) old
+unfolding refused_by
+layout-refused element n m old e long laid =
+    let number : number_of e ≡ (layout_of element n m).refusal = ap (λ (l : Laid). l.refusal) laid in
+    clut-refused element n m old (number_of e) (not_done e) (number ∙ layout-number element n m (length old) long (λ z. not_done e (number ∙ z))) _ refl
+
+-- ---- the element's layout was accepted, with this record
+
+module _ (element : List ℕ) (n m : ℕ) (old : List Float) (lut : MultidimensionalLut) (is : IsLayout lut) (laid : record { refusal = 0; lut = lut } ≡ layout_of element n m) where
+  -- what `read_units` answered then, k, of as many values as entries
+  pub units-read : 20 ≤ length element → (count k : ℕ) (now : List Float) → count ≡ get_or lut.grid_filling_size 0 0 * get_or lut.grid_sizes 0 0
+      → UnitsRead (take (length element - 20) (data_of element)) (precision_of element) count old k now
+      → (r : Laid) → r ≡ on_done k (layout_of element n m) (refused_by k) → ClutRead element n m old r now
+  units-read long count k now counted units r answer =
+      let total : count ≡ total_of element n m = counted ∙ first-filling lut is ∙ ap (λ (l : Laid). entries l.lut) laid in
+      let number : k ≡ refusal element n m (length old) =
+      units.number
+      ∙ (λ i. data_refusal (precision_of element) (length (rest-is 20 element i)) (total i) (length old))
+      ∙ data-number element n m (length old) long (ap (λ (l : Laid). l.refusal) (sym laid)) in
+      record {
+        answer = answer ∙ ap (λ (j : ℕ). on_done j (layout_of element n m) (refused_by j)) number;
+        table = units.entries ∙ (λ i. left (number i) (entry_at (precision_of element) (rest-is 20 element i)) (total i) old);
+      }
 
 -- the number in an answer: of a layout where nothing is refused
 answer-number : (k : ℕ) (laid : Laid) → (k ≡ 0 → laid.refusal ≡ 0) → (on_done k laid (refused_by k)).refusal ≡ k

@@ -19,8 +19,7 @@ use Rattle.lists.specs.Buffer.{left}
 use Rattle.lists.proofs.Lists.{bytes-at}
 use Rattle.lists.proofs.Bytes.{big-below}
 use Rattle.lists.proofs.Buffer.{written_at}
-use Rattle.layout.specs.declared.Laid.{Laid}
-use Rattle.layout.specs.Layout.{refused_by, entries, IsLayout}
+use Rattle.layout.specs.Layout.{Laid, refused_by, entries, IsLayout}
 use Rattle.clut.specs.Units.{value_at, entry_at, data_refusal, UnitsRead}
 use Rattle.clut.specs.Clut.{precision_of, data_of, layout_of, total_of, refusal, ClutRead}
 use Rattle.clut.proofs.Reading.{clut-is-layout, clut-number, all-passed, data-holds}

@@ -4,7 +4,9 @@ use mathlib.Core.Path.{◌≡◌, sym, ap, ◌∙◌}
 use mathlib.Core.List.{List}
 use lib.Ieee.{Float}
 use Rattle.outcome.specs.Outcome.{OneOutcome}
+use Rattle.outcome.proofs.Numbers.{same_done}
 use Rattle.lists.specs.Buffer.{left}
+use Rattle.layout.proofs.Unique.{same_laid}
 use Rattle.clut.specs.Units.{entry_at, UnitsRead}
 use Rattle.clut.proofs.read_clut.Kinds as read-clut-kinds
 use Rattle.clut.proofs.read_clut.Reads as read-clut-reads
@@ -19,12 +21,12 @@ units-one {bytes} {precision} {count} {old} p q =
     (number, p.entries ∙ ap (λ (r : ℕ). left r (entry_at precision bytes) count old) number ∙ sym q.entries)
 
 pub read-units-unique : OneOutcome 2 read-units-kinds.ps read-units-kinds.r read-units-reads.Post
-read-units-unique κs a x y ws vs p q = let one = units-one p q in (one.0, λ i. (tt, (tt, (tt, (one.1 i, tt)))))
+read-units-unique κs a x y ws vs p q = let one = units-one p q in (same_done x y one.0, λ i. (tt, (tt, (tt, (one.1 i, tt)))))
 
 pub read-clut-unique : OneOutcome 2 read-clut-kinds.ps read-clut-kinds.r read-clut-reads.Post
 read-clut-unique κs a x y ws vs p q =
     let table = p.table ∙ sym q.table in
-    (p.answer ∙ sym q.answer, λ i. (tt, (tt, (tt, (table i, tt)))))
+    (same_laid x y (p.answer ∙ sym q.answer), λ i. (tt, (tt, (tt, (table i, tt)))))
 
 -- no `requires`
 pub read-units-asks-nothing : (κs : _) (a : _) → read-units-reads.Pre κs a

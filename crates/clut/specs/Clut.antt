@@ -2,14 +2,13 @@
 use Rattle.std.specs.Prelude.{ℕ, ◌≡◌, cond, List, Float, ltb, length, get_or, drop}
 use Rattle.outcome.specs.Outcome.{or_else, on_done}
 use Rattle.lists.specs.Buffer.{left}
-use Rattle.lists.specs.Lists.{tabulate}
-use Rattle.layout.specs.declared.Laid.{Laid}
-use Rattle.layout.specs.Layout.{laid_of, refused_by, entries}
+use Rattle.lists.specs.Bytes.{first_sixteen}
+use Rattle.layout.specs.Layout.{Laid, laid_of, refused_by, entries}
 use Rattle.clut.specs.Units.{entry_at, data_refusal}
 
 -- Sixteen grid sizes, a precision byte, three bytes of padding, then the data. A byte that is missing counts as 0.
 abbrev pub sizes_of : List ℕ → List ℕ
-sizes_of element = tabulate 16 (λ i. get_or element i 0)
+sizes_of element = first_sixteen element
 
 abbrev pub precision_of : List ℕ → ℕ
 precision_of element = get_or element 16 0

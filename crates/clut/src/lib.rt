@@ -3,95 +3,59 @@
 
 mod values;
 
-ghost use Rattle.std.specs.Prelude.{◌≡◌, ℕ, ◌*◌, ◌≤◌, ltb};
-ghost use Rattle.clut.specs.Units.{is_precision, data_refusal, UnitsRead};
-ghost use Rattle.clut.specs.Clut.{sizes_of, ClutRead};
+ghost use Rattle.std.specs.Prelude.{◌≡◌, ◌*◌, ◌≤◌, IfOk};
+ghost use Rattle.outcome.specs.Refused.{number_in};
+ghost use Rattle.layout.specs.Layout.{laid_in};
+ghost use Rattle.clut.specs.Units.{data_refusal, UnitsRead};
+ghost use Rattle.clut.specs.Widths.{bytes_of};
+ghost use Rattle.clut.specs.Clut.{ClutRead};
 
-use layout::Laid;
+use layout::MultidimensionalLut;
+use outcome::Refusal;
+use values::Width;
 
 // Sixteen sizes, the precision and three bytes of padding come before the data.
 const HEADER: usize = 20;
 
-// A value has one byte or two.
-fn is_precision(precision: usize) -> bool
-    ensures { result ≡ is_precision precision }
+// Checks 14, 15 and 8. Answers the width of a value.
+#[tactic(auto, unfolding(crate::specs::Units::data_refusal))]
+fn check(precision: usize, bytes: usize, count: usize, room: usize) -> Result<Width, Refusal>
+    ensures number { number_in result ≡ data_refusal precision bytes count room }
+    ensures width { IfOk result (λ width. bytes_of width ≡ precision) }
+    ensures held { IfOk result (λ width. bytes_of width * count ≤ bytes) }
+    ensures room { IfOk result (λ width. count ≤ room) }
 {
-    if precision == 1 {
-        return true;
-    }
-    precision == 2
-}
-
-// The values that so many bytes hold: a quotient, since the bytes of a count of values may be past any number.
-fn held(bytes: usize, width: usize) -> usize
-    requires { (1 ≤ width) × (width ≤ 2) }
-    ensures { (c : ℕ) → ltb result c ≡ ltb bytes (width * c) }
-{
-    if width == 1 {
-        return bytes;
-    }
-    bytes / 2
-}
-
-// Checks 14, 15 and 8.
-fn data_refusal(precision: usize, bytes: usize, count: usize, room: usize) -> u32
-    ensures { result ≡ data_refusal precision bytes count room }
-{
-    if !is_precision(precision) {
-        return 14;
-    }
-    if held(bytes, precision) < count {
-        return 15;
+    let width = Width::try_from(precision)?;
+    if width.held(bytes) < count {
+        return Err(Refusal::ShortData);
     }
     if room < count {
-        return 8;
+        return Err(Refusal::ShortAnswer);
     }
-    0
+    Ok(width)
 }
 
 // The first `count` values of the bytes, of `precision` bytes each, as numbers from 0 to 1: checks 14, 15, 8, and sets the first `count` places of `entries`.
 // Refused, nothing is written.
-pub fn read_units(bytes: &[u8], precision: usize, count: usize, entries: &mut [f32]) -> u32
-    ensures { UnitsRead bytes.now precision count entries.old result entries.new }
+pub fn read_units(bytes: &[u8], precision: usize, count: usize, entries: &mut [f32]) -> Result<(), Refusal>
+    ensures { UnitsRead bytes.now precision count entries.old (number_in result) entries.new }
 {
-    let refusal = data_refusal(precision, bytes.len(), count, entries.len());
-    if refusal != 0 {
-        return refusal;
-    }
-    values::read(bytes, precision, entries, count);
-    0
-}
-
-// The sixteen grid sizes at an element's start. A byte that is missing counts as 0.
-fn sizes_of(element: &[u8]) -> [u8; 16]
-    ensures { result ≡ sizes_of element.now }
-{
-    let mut sizes = [0u8; 16];
-    let mut i: usize = 0;
-    while i < 16 {
-        sizes[i] = lists::byte_at(element, i);
-        i += 1;
-    }
-    sizes
+    let width = check(precision, bytes.len(), count, entries.len())?;
+    width.read(bytes, entries, count);
+    Ok(())
 }
 
 // Reads an element for n inks in and m out: checks 13, 1, 2, 3, 5, 14, 15, 8. Answers the layout, and sets the first total places of `entries`.
-// Refused, it answers a record of zeros and nothing is written.
-pub fn read_clut(element: &[u8], n: usize, m: usize, entries: &mut [f32]) -> Laid
-    ensures { ClutRead element.now n m entries.old result entries.new }
+// Refused, nothing is written.
+pub fn read_clut(element: &[u8], n: usize, m: usize, entries: &mut [f32]) -> Result<MultidimensionalLut, Refusal>
+    ensures { ClutRead element.now n m entries.old (laid_in result) entries.new }
 {
     if element.len() < HEADER {
-        return layout::refused(13);
+        return Err(Refusal::ShortElement);
     }
-    let laid = layout::layout(sizes_of(element), n, m);
-    if laid.refusal != 0 {
-        return laid;
-    }
-    let total = layout::entry_count(laid.lut) as usize;
+    let lut = layout::layout(lists::first_16(element), n, m)?;
+    let total = layout::entry_count(lut) as usize;
     let precision = element[16] as usize;
-    let number = read_units(&element[20..], precision, total, entries);
-    if number != 0 {
-        return layout::refused(number);
-    }
-    laid
+    read_units(&element[HEADER..], precision, total, entries)?;
+    Ok(lut)
 }

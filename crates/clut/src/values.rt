@@ -1,76 +1,65 @@
 // The values of data as entries: each of one byte, or of two with the first counting most.
-ghost use Rattle.std.specs.Prelude.{◌≡◌, List, ◌+◌, ◌-◌, ◌*◌, ◌^◌, ◌≤◌, Float, length};
+ghost use Rattle.std.specs.Prelude.{◌≡◌, ℕ, ◌+◌, ◌*◌, ◌≤◌, cond, IfOk, ltb, length};
+ghost use Rattle.outcome.specs.Refused.{number_in};
 ghost use Rattle.lists.specs.Buffer.{written};
-ghost use Rattle.clut.specs.Units.{value_at, entry_at};
+ghost use Rattle.clut.specs.Units.{is_precision, entry_at};
+ghost use Rattle.clut.specs.Widths.{bytes_of};
 
-// Value e.
-fn value(bytes: &[u8], width: usize, e: usize) -> u16
-    requires { (width ≤ 2) × (width * e + width ≤ length bytes.now) }
-    ensures { result ≡ value_at width bytes.now e }
-{
-    let at = width * e;
-    let mut v: u16 = 0;
-    let mut i: usize = 0;
-    while i < width {
-        v = v * 256 + (bytes[at + i] as u16);
-        i += 1;
-    }
-    v
+use outcome::Refusal;
+
+// How many bytes a value has.
+#[derive(Clone, Copy)]
+pub(crate) enum Width {
+    One,
+    Two,
 }
 
-// Value e as an entry, where `most` is the largest value.
-fn entry(bytes: &[u8], width: usize, most: u16, e: usize) -> f32
-    requires width_bound { (width ≤ 2) × (width * e + width ≤ length bytes.now) }
-    requires most_value { most ≡ 256 ^ width - 1 }
-    ensures { result ≡ entry_at width bytes.now e }
-{
-    binary32::unit(value(bytes, width, e), most)
-}
+// The width of a precision, which is the number of bytes.
+impl TryFrom<usize> for Width {
+    type Error = Refusal;
 
-// The entries after the first `done`, up to `count`, one at a time.
-fn rest(bytes: &[u8], width: usize, most: u16, entries: &mut [f32], done: usize, count: usize)
-    requires width_bound { (width ≤ 2) × (most ≡ 256 ^ width - 1) }
-    requires count_in_bounds { (width * count ≤ length bytes.now) × (count ≤ length entries.old) × (done ≤ count) }
-    ensures { (old : List Float) → entries.old ≡ written (entry_at width bytes.now) done old → entries.new ≡ written (entry_at width bytes.now) count old }
-{
-    let mut e = done;
-    while e < count {
-        entries[e] = entry(bytes, width, most, e);
-        e += 1;
+    ghost try_from_gives = { λ precision read. (number_in read ≡ cond (is_precision precision) 0 14) × IfOk read (λ width. bytes_of width ≡ precision) };
+
+    #[tactic(auto, unfolding(crate::specs::Units::is_precision))]
+    fn try_from(precision: usize) -> Result<Width, Refusal> {
+        match precision {
+            1 => Ok(Width::One),
+            2 => Ok(Width::Two),
+            _ => Err(Refusal::Precision),
+        }
     }
 }
 
-// Values of two bytes, four at a time: answers how many entries are done, which leaves at most three.
-// The loop goes on where `count` and the entries done, a multiple of four, differ in a bit above the last two. By this test the compiler keeps the four
-// together; by a comparison it counts the turns and makes a loop of its own of them, which takes twice as long.
-fn fours(bytes: &[u8], entries: &mut [f32], count: usize) -> usize
-    requires { (2 * count ≤ length bytes.now) × (count ≤ length entries.old) }
-    ensures { (result ≤ count) × (entries.new ≡ written (entry_at 2 bytes.now) result entries.old) }
-{
-    let mut e: usize = 0;
-    while (count ^ e) > 3 {
-        let a = entry(bytes, 2, 65535, e);
-        let b = entry(bytes, 2, 65535, e + 1);
-        let c = entry(bytes, 2, 65535, e + 2);
-        let d = entry(bytes, 2, 65535, e + 3);
-        entries[e] = a;
-        entries[e + 1] = b;
-        entries[e + 2] = c;
-        entries[e + 3] = d;
-        e += 4;
+impl Width {
+    // The values that so many bytes hold: a quotient, since the bytes of a count of values may be past any number.
+    pub(crate) fn held(self, bytes: usize) -> usize
+        ensures { (c : ℕ) → ltb result c ≡ ltb bytes (bytes_of self * c) }
+    {
+        match self {
+            Width::One => bytes,
+            Width::Two => bytes / 2,
+        }
     }
-    e
-}
 
-// The first `count` values as entries. Each width is a constant at its call, so that the compiler makes a loop for it.
-pub(crate) fn read(bytes: &[u8], width: usize, entries: &mut [f32], count: usize)
-    requires le_width { (1 ≤ width) × (width ≤ 2) }
-    requires count_in_bounds { (width * count ≤ length bytes.now) × (count ≤ length entries.old) }
-    ensures { entries.new ≡ written (entry_at width bytes.now) count entries.old }
-{
-    if width == 1 {
-        return rest(bytes, 1, 255, entries, 0, count);
+    // Value e as an entry: divided by the largest value.
+    fn entry(self, bytes: &[u8], e: usize) -> f32
+        requires { bytes_of self * e + bytes_of self ≤ length bytes.now }
+        ensures { result ≡ entry_at (bytes_of self) bytes.now e }
+    {
+        match self {
+            Width::One => binary32::unit(u16::from(bytes[e]), u16::from(u8::MAX)),
+            Width::Two => binary32::unit(u16::from_be_bytes([bytes[2 * e], bytes[2 * e + 1]]), u16::MAX),
+        }
     }
-    let done = fours(bytes, entries, count);
-    rest(bytes, 2, 65535, entries, done, count)
+
+    // The first `count` values as entries.
+    pub(crate) fn read(self, bytes: &[u8], entries: &mut [f32], count: usize)
+        requires held { bytes_of self * count ≤ length bytes.now }
+        requires room { count ≤ length entries.old }
+        ensures { entries.new ≡ written (entry_at (bytes_of self) bytes.now) count entries.old }
+    {
+        for e in 0..count {
+            entries[e] = self.entry(bytes, e);
+        }
+    }
 }

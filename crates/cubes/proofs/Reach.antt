@@ -40,5 +40,13 @@ module _ (cx cy cz : Cell) (g m len : ℕ) (inside : Inside cx cy cz g m) (long 
 
   pub reach : (p : Corners ℕ) → corner_at p ≡ starts cx cy cz g m → Reach p m len
   reach p is =
-      let at : (i j k : Bool) → corner_at p i j k + m ≤ len = λ i j k. rw is (reach-at i j k) in
-      (at false false false, at true false false, at false true false, at false false true, at true true false, at true false true, at false true true, at true true true)
+      let at : (i j k : Bool) → corner_at p i j k + m ≤ len = λ i j k. rw is (reach-at i j k) in (
+        at false false false,
+        at true false false,
+        at false true false,
+        at false false true,
+        at true true false,
+        at true false true,
+        at false true true,
+        at true true true,
+      )

@@ -63,21 +63,23 @@ fn write_answers(
 )
     requires room { cube.m ≤ length answer.old }
     requires reach { Reach starts cube.m (length cube.entries.now) }
-    ensures { answer.new ≡ written (λ output. blend_of method (entries_at (corner_at starts) cube.entry.entries.now output) weights.red weights.green weights.blue) cube.entry.m answer.old }
+    ensures { let corners = entries_at (corner_at starts) cube.entry.entries.now in
+        answer.new ≡ written (λ o. blend_of method (corners o) weights.red weights.green weights.blue) cube.entry.m answer.old }
 {
     for output in 0..cube.m {
         answer[output] = method.blend(cube.corners(starts, output), weights);
     }
 }
 
-// Refusals 2, 3, 6, 8 and 10 of document 01. Where there is none, the m answers stand in the first entries of `answer`; refused, nothing is written.
+// The m answers, in the first entries of `answer`. Refusals 2, 3, 6, 8 and 10; refused, nothing is written.
 pub fn interpolate(
     method: Method,
     cells: Inks<Cell>,
     cube: Cube,
     answer: &mut [f32],
 ) -> Result<(), Refusal>
-    ensures { Blended (blend_of method) cells.red cells.green cells.blue cube.entry.g cube.entry.m cube.entry.entries.now answer.old (number_in result) answer.new }
+    ensures { let c = cube.entry in
+        Blended (blend_of method) cells.red cells.green cells.blue c.g c.m c.entries.now answer.old (number_in result) answer.new }
 {
     cube.check(cells, answer.len())?;
     let starts = cube.starts(cells);

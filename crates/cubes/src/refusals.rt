@@ -34,7 +34,8 @@ impl Cube<'_> {
     // The first refusal that applies to the cube, three cells and a buffer with `room`.
     #[tactic(auto, using(crate::proofs::Reach::total_is), unfolding(crate::specs::Cube::refusal))]
     pub(crate) fn check(self, cells: Inks<Cell>, room: usize) -> Result<(), Refusal>
-        ensures { number_in result ≡ refusal cells.red cells.green cells.blue self.entry.g self.entry.m (length self.entry.entries.now) room }
+        ensures { let c = self.entry in
+            number_in result ≡ refusal cells.red cells.green cells.blue c.g c.m (length c.entries.now) room }
     {
         if !is_output_count(self.m) {
             return Err(Refusal::OutputInks);

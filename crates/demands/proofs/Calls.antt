@@ -9,7 +9,7 @@ use lib.Ieee.{Float, nan}
 use lib.ListN.{length, get_or, take}
 use Rattle.binary32.specs.Same.{plain, Same}
 use Rattle.layout.specs.declared.MultidimensionalLut.{MultidimensionalLut}
-use Rattle.layout.specs.declared.Laid.{Laid}
+use Rattle.layout.specs.Layout.{Laid}
 use Rattle.layout.specs.Layout.{laid_of, entries}
 use Rattle.layout.proofs.BySizes.{laid-is-layout, laid-inks}
 use Rattle.lookup.specs.Lookup.{never}

@@ -11,7 +11,7 @@ use lib.ListN.{length, get_or}
 use Rattle.lists.proofs.Lists.{get_or-tabulate}
 use Rattle.binary32.specs.Range.{Share}
 use Rattle.layout.specs.declared.MultidimensionalLut.{MultidimensionalLut}
-use Rattle.layout.specs.declared.Laid.{Laid}
+use Rattle.layout.specs.Layout.{Laid}
 use Rattle.layout.specs.Layout.{laid_of, entries}
 use Rattle.lookup.specs.Table.{answer_at}
 use Rattle.flash.specs.Refusals.{layout_in, total_in}

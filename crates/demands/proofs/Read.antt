@@ -7,7 +7,7 @@ use lib.Pow.{are_bytes}
 use lib.Ieee.{Float}
 use Rattle.lists.proofs.Lists.{bytes-at}
 use Rattle.layout.specs.declared.MultidimensionalLut.{MultidimensionalLut}
-use Rattle.layout.specs.declared.Laid.{Laid}
+use Rattle.layout.specs.Layout.{Laid}
 use Rattle.layout.specs.Layout.{IsLayout, entries}
 use Rattle.lookup.specs.Table.{answer_at}
 use Rattle.clut.specs.Units.{UnitsRead}

@@ -15,5 +15,5 @@ pub extern "C" fn first_lookup(
 ) -> u32
     ensures { LookedBySizes sizes.now n m table.now inputs.now answer.old result answer.new }
 {
-    lookup::lookup_by_sizes(sizes, n, m, table, inputs, answer)
+    outcome::number(lookup::lookup_by_sizes(sizes, n, m, table, inputs, answer))
 }

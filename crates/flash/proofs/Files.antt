@@ -10,12 +10,21 @@ use Rattle.lists.proofs.Buffer.{length-written, written_at, written_on}
 use Rattle.flash.specs.File.{word_at, block_byte, blocks_for, file_length, contents_of, file_byte}
 use Rattle.flash.specs.Read.{entry_in}
 use Rattle.flash.proofs.Fours.{word-zero}
-use Rattle.flash.proofs.Parts.{part-at, part_written}
+use Rattle.flash.proofs.Parts.{part_written}
 use Rattle.flash.proofs.BlockWords.{byte-same}
 
 pub file-long : (t : ℕ) → file_length t ≡ 512 * (1 + blocks_for t)
 unfolding file_length
 file-long t = refl
+
+-- another block holds what is left of t entries after k blocks
+pub file-more : (t k : ℕ) → 126 * k < t → 512 * (k + 1) + 512 ≤ file_length t
+unfolding file_length blocks_for
+file-more t k h = omega arith
+
+pub file-whole : (t k : ℕ) → t ≤ 126 * k → 126 * k ≤ t + 125 → 512 * (k + 1) ≡ file_length t
+unfolding file_length blocks_for
+file-whole t k past few = omega arith
 
 block_of : (b i : ℕ) → i < 512 → (512 * b + i) / 512 ≡ b
 block_of b i h = omega arith
@@ -48,11 +57,11 @@ module _ (head bits : List ℕ) where
   more : (k : ℕ) → 512 * (k + 1) + 512 ≡ 512 * (k + 1 + 1)
   more k = omega arith
 
-  pub file-next : (k n : ℕ) (old file new : List ℕ) → n ≡ min 126 (length bits - 126 * k) → file ≡ written (file_byte head bits) (512 * (k + 1)) old
-      → new ≡ written_from (512 * (k + 1)) (block_byte (k + 1) (λ j. get_or (take n (drop (126 * k) bits)) j 0)) 512 file
+  pub file-next : (k : ℕ) (part old file new : List ℕ) → ((j : ℕ) → j < 126 → get_or part j 0 ≡ get_or bits (126 * k + j) 0)
+      → file ≡ written (file_byte head bits) (512 * (k + 1)) old → new ≡ written_from (512 * (k + 1)) (block_byte (k + 1) (λ j. get_or part j 0)) 512 file
       → new ≡ written (file_byte head bits) (512 * (k + 1 + 1)) old
-  file-next k n old file new much before is =
-      block_more (k + 1) (λ j. get_or (take n (drop (126 * k) bits)) j 0) old file new (λ j h. part-at bits (126 * k) 126 n j much h ∙ contents-next k j) before is
+  file-next k part old file new same before is =
+      block_more (k + 1) (λ j. get_or part j 0) old file new (λ j h. same j h ∙ contents-next k j) before is
       ∙ ap (λ (p : ℕ). written (file_byte head bits) p old) (more k)
 
   head-word : (words : List ℕ) → words ≡ tabulate 5 (λ j. word_at head (4 * j)) → length head ≡ 18 → (j : ℕ) → j < 126 → get_or words j 0 ≡ contents_of head bits 0 j

@@ -1,5 +1,6 @@
--- A part of a list that is lent: `part-at`, what it holds; `part_written`, `part-filled`, what it leaves of a buffer. Assumes nothing.
-use Rattle.std.proofs.Common.{◌≡◌, ℕ, zero, suc, ◌+◌, ◌-◌, ◌<◌, ◌≤◌, min, List, ◌++◌, length, get_or, take, drop, set, replicate, sym, refl, ap, ◌∙◌, zero-add, add-one, arith, length-take, length-drop, get_or-drop, get_or-take}
+-- A part of a list that is lent: `part-at`, what it holds; `part-rest`, what is left; `part_written`, `part-filled`, what it leaves of a buffer. Assumes nothing.
+use Rattle.std.proofs.Common.{◌≡◌, ℕ, zero, suc, ◌+◌, ◌<◌, ◌≤◌, min, List, ◌++◌, length, get_or, take, drop, set, replicate, sym, refl, ap, ◌∙◌, zero-add, add-one, arith, length-take, length-drop, length-append, get_or-drop, ext_get_or}
+use Rattle.std.proofs.lemmas.List.{get_or_append_left, drop_at, drop-drop}
 use native.Mathlib.Decide.{dec_lt}
 use lib.ListN.{get_or-eq_default, get_or-replicate, length-replicate}
 use borrow.Rule.Slice.PartMut.{put_mid}
@@ -9,15 +10,23 @@ use Rattle.std.proofs.lemmas.Slice.{put_mid-paste}
 use Rattle.lists.specs.Buffer.{written, written_from}
 use Rattle.lists.proofs.Buffer.{written-from-same, written_on}
 
--- up to m places from a place on
-pub part-at : (xs : List ℕ) (from m n j : ℕ) → n ≡ min m (length xs - from) → j < m → get_or (take n (drop from xs)) j 0 ≡ get_or xs (from + j) 0
-part-at xs from m n j is h =
-    elim (dec_lt j n) [
-      | yes low ↦ get_or-take n (drop from xs) j 0 low ∙ get_or-drop from xs j 0
-      | no high ↦
-          get_or-eq_default (take n (drop from xs)) 0 (omega (arith, length-take n (drop from xs), length-drop from xs))
-          ∙ sym (get_or-eq_default xs 0 (omega arith))
-    ]
+-- a part of m places at most, where the rest from a place on is cut
+module _ (xs part rest : List ℕ) (from m : ℕ) (cut : drop from xs ≡ part ++ rest) (long : length part ≡ min m (length (drop from xs))) where
+  pub part-at : (j : ℕ) → j < m → get_or part j 0 ≡ get_or xs (from + j) 0
+  part-at j h =
+      elim (dec_lt j (length part)) [
+        | yes low ↦ sym (get_or_append_left part rest 0 j low) ∙ ap (λ (l : List ℕ). get_or l j 0) (sym cut) ∙ get_or-drop from xs j 0
+        | no high ↦ get_or-eq_default part 0 (omega arith) ∙ sym (get_or-eq_default xs 0 (omega (arith, length-drop from xs)))
+      ]
+
+  pub part-rest : rest ≡ drop (from + m) xs
+  part-rest =
+      let both : length part + length rest ≡ length (drop from xs) = sym (ap length cut ∙ length-append part rest) in
+      elim (dec_lt (length part) m) [
+        | yes less ↦
+            ext_get_or 0 rest (drop (from + m) xs) (omega (arith, length-drop from xs, length-drop (from + m) xs)) (λ i h. absurd (omega (arith, length-drop from xs)))
+        | no whole ↦ sym (drop_at part rest m (omega arith)) ∙ ap (drop m) (sym cut) ∙ drop-drop m from xs
+      ]
 
 pasted : (old part : List ℕ) (from n : ℕ) → from + n ≤ length old → n ≤ length part → paste old from part n ≡ written_from from (λ i. get_or part i 0) n old
 unfolding written_from

@@ -72,9 +72,6 @@ module _ (file : List ℕ) where
     pub head-number : r.refusal ≡ head
     head-number = ap (λ (l : Laid). l.refusal) laid.answer ∙ answer-number head (layout_in file) (λ e. (head-none e).2)
 
-    pub head-zeros : (r.refusal ≡ 0 → ⊥) → r ≡ refused_by head
-    head-zeros refused = laid.answer ∙ sym (kept head (layout_in file) (refused_by head) refused head-number)
-
     pub head-layout : r.refusal ≡ 0 → r ≡ layout_in file
     head-layout none = laid.answer ∙ sym (given head (layout_in file) (refused_by head) (sym none ∙ head-number))
 

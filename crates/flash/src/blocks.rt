@@ -55,9 +55,8 @@ pub(crate) fn put_all(head: &Head, bits: &[u32], file: &mut [u8])
         ≡ written (file_byte (head.now.n ∷ head.now.m ∷ head.now.sizes) bits.now) (file_length (length bits.now)) file.old }
 {
     put_block(&head.words(), 0, file, 0);
-    for k in 0..check::blocks_for(bits.len()) {
-        let end = (126 * k + 126).min(bits.len());
-        put_block(&bits[126 * k..end], (k + 1) as u32, file, 512 * (k + 1));
+    for (k, part) in bits.chunks(126).enumerate() {
+        put_block(part, (k + 1) as u32, file, 512 * (k + 1));
     }
 }
 

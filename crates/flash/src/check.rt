@@ -34,6 +34,7 @@ pub(crate) fn check_block(file: &[u8], at: usize, number: u32, used: usize) -> R
 }
 
 // Where the filling of block 0 begins: after the sizes of its n inks.
+#[tactic(auto, unfolding(crate::specs::Refusals::head_used))]
 pub(crate) fn head_used(n: usize) -> usize
     ensures { (result ≡ head_used n) × (result ≤ 22) }
 {
@@ -41,6 +42,7 @@ pub(crate) fn head_used(n: usize) -> usize
 }
 
 // How many blocks hold that many entries.
+#[tactic(auto, unfolding(crate::specs::File::blocks_for))]
 pub(crate) fn blocks_for(total: usize) -> usize
     ensures value { result ≡ blocks_for total }
     ensures few { 126 * result ≤ total + 125 }
@@ -49,6 +51,7 @@ pub(crate) fn blocks_for(total: usize) -> usize
 }
 
 // Where the filling of a later block begins, where `rest` entries are left at its start.
+#[tactic(auto, unfolding(crate::specs::Refusals::body_used))]
 fn body_used(rest: usize) -> usize
     ensures { (result ≡ body_used rest) × (result ≤ 508) }
 {

@@ -20,6 +20,7 @@ use layout::MultidimensionalLut;
 use outcome::Refusal;
 
 // The bytes of a file of so many entries.
+#[tactic(auto, unfolding(crate::specs::File::file_length))]
 pub fn file_length(total: u32) -> u64
     ensures { result ≡ file_length total }
 {

@@ -1,7 +1,7 @@
 -- What a cut owes, case by case: `cut-refused`, `cut-done`, by the number; and what a cut gives that was not refused: `cut-passed`, what was asked for;
 -- `cut-entry`, the buffer holds the slab; `cut-exact`, one of that length is the slab. `slab-cut-length`: the buffer's length stays. Assumes nothing.
 use Prim.Native.Nat.{ℕ, zero, suc, ◌-◌, ◌*◌, ◌/◌, ◌≤◌, ◌<◌}
-use mathlib.Core.Path.{◌≡◌, refl, sym, ap, ◌∙◌}
+use mathlib.Core.Path.{◌≡◌, refl, sym, ap, ◌∙◌, subst}
 use mathlib.Core.Bool.{Bool, true, false, not, ◌&&◌, ◌||◌}
 use mathlib.Core.List.{List}
 use native.Mathlib.Nat.{mul_comm, mul_assoc, mul-pos, mul-div_cancel, le-mul_of_pos_right}
@@ -20,7 +20,7 @@ use Rattle.layout.specs.declared.MultidimensionalLut.{MultidimensionalLut}
 use Rattle.layout.specs.Layout.{limit, IsLayout, ink_sizes, entries}
 use Rattle.layout.proofs.Laws.{outputs-from, entries_fit, sizes-above, filling-after}
 use Rattle.grid_slab.specs.Slab.{size_of, fewer, slab, is_ink, refusal, SlabCut}
-use Rattle.grid_slab.specs.Runs.{run_of, turns_of, cut_entry, Fit, Checked}
+use Rattle.grid_slab.specs.Runs.{run_of, turns_of, runs_of, cut_entry, CanCut, Fit, Checked}
 use Rattle.grid_slab.proofs.Slabs.{slab-length, table-turns, slab-turns, slab-place}
 
 pub slab-cut-length : (lut : MultidimensionalLut) (table : List Float) (j k : ℕ) (old : List Float) (r : ℕ) (now : List Float)
@@ -86,39 +86,48 @@ passed-done lut table j k room r p checked =
 
 -- ---- what it copies: in turns of ink j
 
-module _ (lut : MultidimensionalLut) (table j k room : ℕ) (p : Passed lut table j k room) where
+module _ (lut : MultidimensionalLut) (j : ℕ) (can : CanCut lut j) where
   entries-some : 0 < entries lut
-  entries-some = mul-pos (product-pos (ink_sizes lut) (sizes-above lut p.is)) (outputs-from lut p.is)
+  entries-some = mul-pos (product-pos (ink_sizes lut) (sizes-above lut can.is)) (outputs-from lut can.is)
 
-  whole-turns : entries lut ≡ turns_of lut j * (run_of lut j * size_of lut j)
+  -- the entries of a run, as the record has them
+  abbrev pub filling : ℕ
+  filling = get_or lut.grid_filling_size (j - 1) 0
+
+  pub run_is : filling ≡ run_of lut j
+  run_is = filling-after lut can.is j can.from can.to
+
+  -- those of a turn
+  abbrev pub turn : ℕ
+  turn = filling * size_of lut j
+
+  whole-turns : entries lut ≡ turns_of lut j * turn
   whole-turns =
-      table-turns lut p.is p.two j p.from p.to
+      table-turns lut can.is can.two j can.from can.to
       ∙ mul_assoc (turns_of lut j) (size_of lut j) (run_of lut j)
       ∙ ap (λ (x : ℕ). turns_of lut j * x) (mul_comm (size_of lut j) (run_of lut j))
+      ∙ (λ i. turns_of lut j * (sym run_is i * size_of lut j))
 
   turns-some : 0 < turns_of lut j
-  turns-some = first_pos (turns_of lut j) (run_of lut j * size_of lut j) (omega (arith, whole-turns, entries-some))
+  turns-some = first_pos (turns_of lut j) turn (omega (arith, whole-turns, entries-some))
 
-  pub run_is : get_or lut.grid_filling_size (j - 1) 0 ≡ run_of lut j
-  run_is = filling-after lut p.is j p.from p.to
+  pub turn-some : 0 < turn
+  turn-some = first_pos turn (turns_of lut j) (omega (arith, mul_comm (turns_of lut j) turn, whole-turns, entries-some))
 
-  pub turn-some : 0 < run_of lut j * size_of lut j
-  turn-some =
-      let turn = run_of lut j * size_of lut j in
-      first_pos turn (turns_of lut j) (omega (arith, mul_comm (turns_of lut j) turn, whole-turns, entries-some))
+  pub turn-within : turn ≤ limit
+  turn-within = omega (arith, le-mul_of_pos_right turn turns-some, mul_comm (turns_of lut j) turn, whole-turns, entries_fit lut can.is)
 
-  pub turn-within : run_of lut j * size_of lut j ≤ limit
-  turn-within =
-      let turn = run_of lut j * size_of lut j in
-      omega (arith, le-mul_of_pos_right turn turns-some, mul_comm (turns_of lut j) turn, whole-turns, entries_fit lut p.is)
+  pub turns-are : entries lut / turn ≡ turns_of lut j
+  turns-are = ap (λ (x : ℕ). x / turn) whole-turns ∙ mul-div_cancel (turns_of lut j) turn-some
 
-  pub turns-are : entries lut / (run_of lut j * size_of lut j) ≡ turns_of lut j
-  turns-are = ap (λ (x : ℕ). x / (run_of lut j * size_of lut j)) whole-turns ∙ mul-div_cancel (turns_of lut j) turn-some
+module _ (lut : MultidimensionalLut) (table j k room : ℕ) (p : Passed lut table j k room) where
+  pub can-cut : CanCut lut j
+  can-cut = record { is = p.is; from = p.from; to = p.to; two = p.two }
 
-  pub turns_fit : Fit table room (run_of lut j) (size_of lut j) k (turns_of lut j)
-  turns_fit =
+  pub runs_fit : Fit table room (runs_of lut j k)
+  runs_fit =
       record {
-        some = first_pos (run_of lut j) (size_of lut j) turn-some;
+        some = subst (λ (run : ℕ). 1 ≤ run) (run_is lut j can-cut) (first_pos (filling lut j can-cut) (size_of lut j) (turn-some lut j can-cut));
         on_line = p.in-grid;
         held = omega (arith, table-turns lut p.is p.two j p.from p.to, p.enough);
         room = omega (arith, slab-turns lut p.is p.two j p.from p.to, p.holds);
@@ -127,9 +136,9 @@ module _ (lut : MultidimensionalLut) (table j k room : ℕ) (p : Passed lut tabl
 module _ (lut : MultidimensionalLut) (table : List Float) (j k : ℕ) (old : List Float) where
   -- the runs make the slab
   pub runs-slab : Passed lut (length table) j k (length old)
-      → written (cut_entry table (run_of lut j) (size_of lut j) k) (turns_of lut j * run_of lut j) old ≡ written (λ e. get_or (slab lut table j k) e nan) (entries (fewer lut j)) old
+      → written (cut_entry table (runs_of lut j k)) (turns_of lut j * run_of lut j) old ≡ written (λ e. get_or (slab lut table j k) e nan) (entries (fewer lut j)) old
   runs-slab p =
-      ap (λ (n : ℕ). written (cut_entry table (run_of lut j) (size_of lut j) k) n old) (sym (slab-turns lut p.is p.two j p.from p.to))
+      ap (λ (n : ℕ). written (cut_entry table (runs_of lut j k)) n old) (sym (slab-turns lut p.is p.two j p.from p.to))
       ∙ written_same _ _ (entries (fewer lut j)) old (λ e l. sym (slab-place lut p.is p.two j p.from p.to k p.in-grid table e l))
 
   module _ (r : ℕ) (checked : Checked lut (length table) j k (length old) r) where

@@ -1,9 +1,9 @@
 -- The layout of the other inks: it is accepted, and has their sizes; the whole table is its entries for each line of ink j. `laid-fewer`, by sizes and counts.
 -- Assumes nothing.
-use Prim.Native.Nat.{ℕ, suc, ◌-◌, ◌*◌, ◌≤◌, ◌<◌}
+use Prim.Native.Nat.{ℕ, suc, ◌-◌, ◌*◌, ◌/◌, ◌≤◌, ◌<◌}
 use mathlib.Core.Path.{◌≡◌, refl, sym, ap, ◌∙◌}
 use mathlib.Core.List.{List}
-use native.Mathlib.Nat.{mul_comm, mul_assoc, mul-le-mul_right, le-mul_of_pos_right}
+use native.Mathlib.Nat.{mul_comm, mul_assoc, mul-le-mul_right, le-mul_of_pos_right, mul-div_cancel_left}
 use native.Mathlib.Decide.{dec_lt}
 use native.Mathlib.Omega.{arith}
 use lib.Dec.{ltb}
@@ -94,6 +94,10 @@ module _ (lut : MultidimensionalLut) (is : IsLayout lut) (two : 2 ≤ lut.input_
       ap (λ (x : ℕ). x * m) (product-part (ink_sizes lut) p (omega (arith, ink-count lut is)) ∙ (λ i. size-of lut is j from to i * product (sym fewer-sizes i)))
       ∙ mul_assoc (size_of lut j) rest m
       ∙ ap (λ (k : ℕ). size_of lut j * (rest * k)) (sym fewer-outputs)
+
+  -- so they are a line's share of it
+  pub fewer-share : 0 < size_of lut j → entries lut / size_of lut j ≡ entries (fewer lut j)
+  fewer-share some = ap (λ (t : ℕ). t / size_of lut j) fewer-entries ∙ mul-div_cancel_left (entries (fewer lut j)) some
 
   -- what is laid out by the other inks' sizes
   pub fewer-laid : laid_using others n lut.output_inks ≡ done (fewer lut j)

@@ -1,21 +1,22 @@
 -- The entries of a slab stand in the table in runs, for any sizes: `entry_place`. How many there are: `product_at`, `product-without`. Run by run: `run-entry`.
 -- Assumes nothing.
 use Prim.Native.Nat.{ℕ, zero, suc, ◌+◌, ◌*◌, ◌/◌, ◌%◌, ◌≤◌, ◌<◌}
-use mathlib.Core.Path.{◌≡◌, refl, sym, ap, ◌∙◌}
+use mathlib.Core.Path.{◌≡◌, sym, ap, ◌∙◌}
 use mathlib.Core.List.{List, [], ◌∷◌}
-use native.Mathlib.Nat.{le_of_suc-le-suc, not-suc-le-zero, mul-one, mul_comm, mul_left_comm, mul-add, add-mul, suc-mul, zero-mul, one-mul, mul-le-mul_right, div-one, mod-one, div-div-eq-div-mul, div-lt_iff_lt-mul}
+use native.Mathlib.Nat.{le_of_suc-le-suc, not-suc-le-zero, mul-one, mul_comm, mul_left_comm, mul-add, suc-mul, mul-le-mul_right, le-mul_of_pos_right, div-one, mod-one, div-div-eq-div-mul, div-lt_iff_lt-mul}
 use native.Mathlib.Omega.{arith}
 use lib.Arith.{digits_div, digits_mod, mod-mul}
 use lib.Ieee.{Float, nan}
 use lib.Ieee.Positive.{first_pos}
-use lib.ListN.{length, get_or, take, drop}
+use lib.ListN.{length, get_or, set, take, drop}
 use Rattle.lists.specs.Lists.{product}
-use Rattle.lists.specs.Buffer.{written, written_from}
-use Rattle.lists.proofs.Buffer.{written_on}
+use Rattle.lists.specs.Buffer.{written}
+use Rattle.lists.proofs.Buffer.{written_next}
 use Rattle.layout.specs.Order.{index, node_at}
 use Rattle.layout.proofs.Order.{node-number}
 use Rattle.grid_slab.specs.Slab.{insert, without}
-use Rattle.grid_slab.specs.Runs.{place_of, cut_entry}
+use Rattle.grid_slab.specs.declared.runs.Runs.{Runs}
+use Rattle.grid_slab.specs.Runs.{place_of, cut_entry, Fit}
 
 -- ---- how many
 
@@ -63,34 +64,31 @@ entry_place gs m p k e h l =
     let turned : number * m + e % m ≡ e % m + m * number = omega (arith, mul_comm number m) in
     turned ∙ node-place (m ∷ gs) (suc p) k e (omega arith) (omega (arith, mul_comm m (product (without p gs))))
 
--- ---- run t: its entries stand in a table of all turns, and it has its place among so many runs
-pub run-held : (run lines k t turns len : ℕ) → k < lines → t < turns → turns * lines * run ≤ len → (t * lines + k) * run + run ≤ len
-run-held run lines k t turns len on below held =
-    let before : suc (t * lines + k) ≤ turns * lines = omega (arith, mul-le-mul_right lines below, suc-mul t lines) in
-    omega (arith, mul-le-mul_right run before, suc-mul (t * lines + k) run)
+-- ---- run t stands in the table, and has its place in the slab
+pub record Stands (table slab : ℕ) (runs : Runs) (t : ℕ) : Type 0 where
+  pub number : t * runs.lines + runs.k < table
+  pub held : (t * runs.lines + runs.k) * runs.run + runs.run ≤ table
+  pub room : t * runs.run + runs.run ≤ slab
 
-pub run_room : (run t turns len : ℕ) → t < turns → turns * run ≤ len → t * run + run ≤ len
-run_room run t turns len below room = omega (arith, mul-le-mul_right run below, suc-mul t run)
+pub stands : {table slab : ℕ} {runs : Runs} {t : ℕ} → Fit table slab runs → t < runs.turns → Stands table slab runs t
+stands {table} {slab} {runs} {t} fit below =
+    let number = t * runs.lines + runs.k in
+    let before : suc number ≤ runs.turns * runs.lines = omega (arith, mul-le-mul_right runs.lines below, suc-mul t runs.lines, fit.on_line) in
+    let held : number * runs.run + runs.run ≤ table = omega (arith, mul-le-mul_right runs.run before, suc-mul number runs.run, fit.held) in
+    record {
+      number = omega (arith, held, le-mul_of_pos_right number fit.some, fit.some);
+      held = held;
+      room = omega (arith, mul-le-mul_right runs.run below, suc-mul t runs.run, fit.room);
+    }
 
 -- its entry i
-pub run-entry : (table : List Float) (run lines k t i : ℕ) → i < run → get_or table ((t * lines + k) * run + i) nan ≡ cut_entry table run lines k (t * run + i)
-run-entry table run lines k t i h = sym (λ x. get_or table ((digits_div t h x * lines + k) * run + digits_mod t h x) nan)
+pub run-entry : (table : List Float) (runs : Runs) (t i : ℕ) → i < runs.run → get_or table ((t * runs.lines + runs.k) * runs.run + i) nan ≡ cut_entry table runs (t * runs.run + i)
+run-entry table runs t i h = sym (λ x. get_or table ((digits_div t h x * runs.lines + runs.k) * runs.run + digits_mod t h x) nan)
 
--- ---- t runs written, one after the other
-
-module _ (table : List Float) (run lines k : ℕ) (old : List Float) where
-  abbrev pub Runs : ℕ → List Float → Type 0
-  Runs t now = now ≡ written (cut_entry table run lines k) (t * run) old
-
-  pub runs_none : Runs 0 old
-  unfolding written
-  runs_none = rw (zero-mul run) refl
-
-  pub runs-next : (t : ℕ) (now next : List Float) → Runs t now → next ≡ written_from (t * run) (λ i. get_or table ((t * lines + k) * run + i) nan) run now → Runs (t + 1) next
-  runs-next t now next so_far is =
-      let one : ℕ → Float = λ i. get_or table ((t * lines + k) * run + i) nan in
-      let more : t * run + run ≡ (t + 1) * run = omega (arith, add-mul t 1 run, one-mul run) in
-      is
-      ∙ ap (written_from (t * run) one run) so_far
-      ∙ written_on one (cut_entry table run lines k) (t * run) run old (λ i. run-entry table run lines k t i)
-      ∙ ap (λ (e : ℕ). written (cut_entry table run lines k) e old) more
+-- which is the next that is written
+pub entry-next : (table : List Float) (runs : Runs) (old : List Float) (t i : ℕ) (now : List Float) → i < runs.run → now ≡ written (cut_entry table runs) (t * runs.run + i) old
+    → set now (t * runs.run + i) (get_or table ((t * runs.lines + runs.k) * runs.run + i) nan) ≡ written (cut_entry table runs) (t * runs.run + (i + 1)) old
+entry-next table runs old t i now below so_far =
+    (λ x. set (so_far x) (t * runs.run + i) (run-entry table runs t i below x))
+    ∙ written_next (cut_entry table runs) (t * runs.run + i) old
+    ∙ ap (λ (e : ℕ). written (cut_entry table runs) e old) (omega arith)

@@ -17,7 +17,7 @@ use Rattle.layout.proofs.Order.{entries-within, within-length}
 use Rattle.layout.proofs.Laws.{ink-count, size-of}
 use Rattle.lookup.specs.Table.{output}
 use Rattle.grid_slab.specs.Slab.{insert, without, size_of, fewer, slab}
-use Rattle.grid_slab.specs.Runs.{run_of, turns_of, cut_entry}
+use Rattle.grid_slab.specs.Runs.{run_of, turns_of, place_of, runs_of, cut_entry}
 use Rattle.grid_slab.proofs.Without.{insert-without}
 use Rattle.grid_slab.proofs.Fewer.{fewer-outputs, fewer-sizes}
 use Rattle.grid_slab.proofs.Places.{product_at, product-without, entry_place}
@@ -104,11 +104,11 @@ module _ (lut : MultidimensionalLut) (is : IsLayout lut) (two : 2 ≤ lut.input_
           e (omega (arith, total-is))
 
       -- its entries stand in the table in runs
-      pub slab-place : (e : ℕ) → e < entries (fewer lut j) → get_or (slab lut table j k) e nan ≡ cut_entry table (run_of lut j) (size_of lut j) k e
+      pub slab-place : (e : ℕ) → e < entries (fewer lut j) → get_or (slab lut table j k) e nan ≡ cut_entry table (runs_of lut j k) e
       unfolding slab
       slab-place e l =
           let m = lut.output_inks in
           let low : e < product (without place (ink_sizes lut)) * m = omega (arith, total-is) in
           get_or-tabulate _ _ e nan low
           ∙ ap (λ (i : ℕ). get_or table i nan) (entry_place (ink_sizes lut) m place k e in_place low)
-          ∙ ap (λ (g : ℕ). cut_entry table (run_of lut j) g k e) size-at
+          ∙ ap (λ (g : ℕ). get_or table (place_of (run_of lut j) g k e) nan) size-at

@@ -1,50 +1,47 @@
 // What is refused.
-ghost use Rattle.std.specs.Prelude.{◌≡◌, not, ◌||◌, eqb};
+ghost use Rattle.std.specs.Prelude.{◌≡◌};
+ghost use Rattle.outcome.specs.Refused.{number_in};
 ghost use Rattle.grid_slab.specs.Slab.{is_ink};
 ghost use Rattle.grid_slab.specs.Runs.{Checked};
 
 use layout::MultidimensionalLut;
+use outcome::Refusal;
 
-// Whether j is no ink of n, or the only one.
-fn no_cut(j: usize, n: usize) -> bool
-    ensures { result ≡ not (is_ink j n) || eqb n 1 }
+// Whether j is one of n inks.
+#[tactic(auto, unfolding(crate::specs::Slab::is_ink))]
+fn is_ink(j: usize, n: usize) -> bool
+    ensures { result ≡ is_ink j n }
 {
-    if j < 1 {
-        return true;
-    }
-    if n < j {
-        return true;
-    }
-    n == 1
+    1 <= j && j <= n
 }
 
-// The number of a cut: the first refusal that applies, and 0 where none does. The slab is the share of one of ink j's lines.
-pub(crate) fn refused(
+// What a cut refuses: the first that applies. The slab is the share of one of ink j's lines.
+pub(crate) fn check(
     lut: MultidimensionalLut,
     table: usize,
     j: usize,
     k: usize,
     room: usize,
-) -> u32
-    ensures { Checked lut table j k room result }
+) -> Result<(), Refusal>
+    ensures { Checked lut table j k room (number_in result) }
 {
     if !layout::is_layout(lut) {
-        return 9;
+        return Err(Refusal::ForeignRecord);
     }
     let total = layout::entry_count(lut);
     if (table as u64) < total {
-        return 6;
+        return Err(Refusal::ShortTable);
     }
-    if no_cut(j, lut.input_inks) {
-        return 11;
+    if !is_ink(j, lut.input_inks) || lut.input_inks == 1 {
+        return Err(Refusal::NoSuchInk);
     }
     let sizes = lut.grid_sizes;
     let lines = sizes[j - 1];
     if (lines as usize) <= k {
-        return 12;
+        return Err(Refusal::NoSuchLine);
     }
     if (room as u64) < total / (lines as u64) {
-        return 8;
+        return Err(Refusal::ShortAnswer);
     }
-    0
+    Ok(())
 }

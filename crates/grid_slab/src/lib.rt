@@ -4,11 +4,14 @@
 mod check;
 mod runs;
 
+ghost use Rattle.outcome.specs.Refused.{number_in};
 ghost use Rattle.grid_slab.specs.Slab.{SlabCut};
 
 use layout::MultidimensionalLut;
+use outcome::Refusal;
+use runs::Runs;
 
-// The table that remains when ink j, counted from 1, stands on line k, counted from 0: checks 9, 6, 11, 12, 8. On 0 it stands in the first entries of
+// The table that remains when ink j, counted from 1, stands on line k, counted from 0: checks 9, 6, 11, 12, 8. It stands in the first entries of
 // `slab`. Refused, nothing is written.
 pub fn cut_slab(
     lut: MultidimensionalLut,
@@ -16,18 +19,10 @@ pub fn cut_slab(
     j: usize,
     k: usize,
     slab: &mut [f32],
-) -> u32
-    ensures { SlabCut lut table.now j k slab.old result slab.new }
+) -> Result<(), Refusal>
+    ensures { SlabCut lut table.now j k slab.old (number_in result) slab.new }
 {
-    let refusal = check::refused(lut, table.len(), j, k, slab.len());
-    if refusal != 0 {
-        return refusal;
-    }
-    let filling = lut.grid_filling_size;
-    let run = filling[j - 1] as usize;
-    let sizes = lut.grid_sizes;
-    let lines = sizes[j - 1] as usize;
-    let turns = (layout::entry_count(lut) as usize) / (run * lines);
-    runs::cut(table, run, lines, k, turns, slab);
-    0
+    check::check(lut, table.len(), j, k, slab.len())?;
+    Runs::of(lut, j, k).cut(table, slab);
+    Ok(())
 }

@@ -1,44 +1,65 @@
 // Copying runs of consecutive entries.
-ghost use Rattle.std.specs.Prelude.{◌≡◌, ◌+◌, ◌*◌, ◌≤◌, length, get_or};
-ghost use Rattle.std.specs.Float.{nan};
-ghost use Rattle.lists.specs.Buffer.{written, written_from};
-ghost use Rattle.grid_slab.specs.Runs.{cut_entry, Fit};
+ghost use Rattle.std.specs.Prelude.{◌≡◌, ◌*◌, length};
+ghost use Rattle.lists.specs.Buffer.{written};
+ghost use Rattle.grid_slab.specs.Runs.{CanCut, Fit, runs_of, cut_entry};
 
-// One run: `count` entries of the table from place `from` on, to the places from `to` on.
-fn copy_run(table: &[f32], from: usize, slab: &mut [f32], to: usize, count: usize)
-    requires { (from + count ≤ length table.now) × (to + count ≤ length slab.old) }
-    ensures { slab.new ≡ written_from to (λ i. get_or table.now (from + i) nan) count slab.old }
-{
-    let mut i: usize = 0;
-    while i < count {
-        slab[to + i] = table[from + i];
-        i += 1;
-    }
+use layout::MultidimensionalLut;
+
+// Ink j turns `turns` times through its lines, with a run of so many entries for each; line `k` is the one that is cut out.
+#[derive(Clone, Copy)]
+pub(crate) struct Runs {
+    pub run: usize,
+    pub lines: usize,
+    pub k: usize,
+    pub turns: usize,
 }
 
-// The run at line k of each turn, one after the other.
-fn copy(table: &[f32], run: usize, lines: usize, k: usize, turns: usize, slab: &mut [f32])
-    requires { Fit (length table.now) (length slab.old) run lines k turns }
-    ensures { slab.new ≡ written (cut_entry table.now run lines k) (turns * run) slab.old }
-{
-    let mut t: usize = 0;
-    while t < turns {
-        copy_run(table, (t * lines + k) * run, slab, t * run, run);
-        t += 1;
+impl Runs {
+    // The runs of ink j, of which that at line k is cut out.
+    pub(crate) fn of(lut: MultidimensionalLut, j: usize, k: usize) -> Runs
+        requires { CanCut lut j }
+        ensures { result ≡ runs_of lut j k }
+    {
+        let filling = lut.grid_filling_size;
+        let run = filling[j - 1] as usize;
+        let sizes = lut.grid_sizes;
+        let lines = sizes[j - 1] as usize;
+        let turns = (layout::entry_count(lut) as usize) / (run * lines);
+        Runs {
+            run,
+            lines,
+            k,
+            turns,
+        }
     }
-}
 
-// The same for any run. Where the last ink is cut a run is one node: with three or four outputs its length is a constant at the call, so that the compiler
-// makes a loop for it.
-pub(crate) fn cut(table: &[f32], run: usize, lines: usize, k: usize, turns: usize, slab: &mut [f32])
-    requires { Fit (length table.now) (length slab.old) run lines k turns }
-    ensures { slab.new ≡ written (cut_entry table.now run lines k) (turns * run) slab.old }
-{
-    if run == 3 {
-        return copy(table, 3, lines, k, turns, slab);
+    // The run at line k of each turn, one after the other.
+    fn copy(self, table: &[f32], slab: &mut [f32])
+        requires { Fit (length table.now) (length slab.old) self }
+        ensures { slab.new ≡ written (cut_entry table.now self) (self.turns * self.run) slab.old }
+    {
+        for t in 0..self.turns {
+            let from = (t * self.lines + self.k) * self.run;
+            let to = t * self.run;
+            // Stays: by copy_from_slice, which calls memmove, a cut of runs of 17 entries takes 1.4 times as long.
+            for i in 0..self.run {
+                slab[to + i] = table[from + i];
+            }
+        }
     }
-    if run == 4 {
-        return copy(table, 4, lines, k, turns, slab);
+
+    // The same for any run. Where the last ink is cut a run is one node: with up to four outputs its length is a constant at the call, so that the
+    // compiler makes a loop for it.
+    pub(crate) fn cut(self, table: &[f32], slab: &mut [f32])
+        requires { Fit (length table.now) (length slab.old) self }
+        ensures { slab.new ≡ written (cut_entry table.now self) (self.turns * self.run) slab.old }
+    {
+        match self.run {
+            1 => Runs { run: 1, ..self }.copy(table, slab),
+            2 => Runs { run: 2, ..self }.copy(table, slab),
+            3 => Runs { run: 3, ..self }.copy(table, slab),
+            4 => Runs { run: 4, ..self }.copy(table, slab),
+            _ => self.copy(table, slab),
+        }
     }
-    copy(table, run, lines, k, turns, slab)
 }

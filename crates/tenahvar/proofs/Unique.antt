@@ -8,7 +8,7 @@ use Rattle.outcome.specs.Outcome.{OneOutcome}
 use Rattle.layout.specs.Layout.{laid_of}
 use Rattle.lookup.specs.Lookup.{idle}
 use Rattle.lookup.specs.Idle.{reads_at}
-use Rattle.lookup.proofs.Unique.{one-count, lookup-by-sizes-unique}
+use Rattle.lookup.proofs.Unique.{one-count}
 use Rattle.lists.specs.Buffer.{left}
 use Rattle.cell.specs.declared.Cell.{Cell}
 use Rattle.cubes.specs.Blends.{Blend}
@@ -52,7 +52,9 @@ tenahvar-total-unique κs a x y ws vs p q =
     (p.number ∙ sym q.number, λ i. (tt, (tt, (tt, (total i, tt)))))
 
 pub tenahvar-lookup-unique : OneOutcome 4 lookup-kinds.ps lookup-kinds.r lookup-reads.Post
-tenahvar-lookup-unique = lookup-by-sizes-unique
+tenahvar-lookup-unique κs a x y ws vs p q =
+    let entries = p.entries ∙ sym q.entries in
+    (p.number ∙ sym q.number, λ i. (tt, (tt, (tt, (tt, (tt, (entries i, tt)))))))
 
 pub tenahvar-lookup-skipping-unique : OneOutcome 5 lookup-skipping-kinds.ps lookup-skipping-kinds.r lookup-skipping-reads.Post
 tenahvar-lookup-skipping-unique κs a x y ws vs p q =

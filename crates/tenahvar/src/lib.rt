@@ -1,6 +1,7 @@
-// The C interface: thin calls of the crates below, on numbers, slices and arrays. What each owes is in specs/.
+// The C interface: the numbers of the crates' answers, on numbers, slices and arrays. What each owes is in specs/.
 #![tactic(auto)]
 
+mod answers;
 mod files;
 
 ghost use Rattle.cubes.specs.Blends.{pyramid, prism, trilinear};
@@ -14,7 +15,8 @@ ghost use Rattle.tenahvar.specs.Cubes.{BlendedAt};
 ghost use Rattle.clut.specs.Units.{UnitsRead};
 ghost use Rattle.tenahvar.specs.Clut.{ClutTaken};
 
-use cell::Cell;
+use answers::cells;
+use cubes::{Cube, Method};
 
 // The layout's number; on 0 the record's three rows are written, on a refusal nothing is.
 #[unsafe(no_mangle)]
@@ -28,18 +30,14 @@ pub extern "C" fn tenahvar_layout(
 ) -> u32
     ensures { LaidOut sizes.now n m grid_strides.old grid_filling_size.old grid_scale.old result grid_strides.new grid_filling_size.new grid_scale.new }
 {
-    let laid = layout::layout(*sizes, n, m);
-    if laid.refusal != 0 {
-        return laid.refusal;
-    }
-    let lut = laid.lut;
-    let strides = lut.grid_strides;
-    *grid_strides = strides;
-    let filling = lut.grid_filling_size;
-    *grid_filling_size = filling;
-    let scale = lut.grid_scale;
-    *grid_scale = scale;
-    0
+    outcome::number(answers::lay_out(
+        sizes,
+        n,
+        m,
+        grid_strides,
+        grid_filling_size,
+        grid_scale,
+    ))
 }
 
 // The layout's number; on 0 `total` is the entries that a table needs.
@@ -47,12 +45,7 @@ pub extern "C" fn tenahvar_layout(
 pub extern "C" fn tenahvar_total(sizes: &[u8; 16], n: usize, m: usize, total: &mut u64) -> u32
     ensures { Totalled sizes.now n m total.old result total.new }
 {
-    let asked = layout::layout(*sizes, n, m);
-    if asked.refusal != 0 {
-        return asked.refusal;
-    }
-    *total = layout::entry_count(asked.lut);
-    0
+    outcome::number(answers::count(sizes, n, m, total))
 }
 
 // Lays out, then looks up: refusals 1, 2, 3, 5, then 6, 7, 8, 16. On 0 the first m entries of `answer` are set.
@@ -67,7 +60,7 @@ pub extern "C" fn tenahvar_lookup(
 ) -> u32
     ensures { LookedBySizes sizes.now n m table.now inputs.now answer.old result answer.new }
 {
-    walk::lookup_by_sizes(sizes, n, m, table, inputs, answer)
+    outcome::number(walk::lookup_by_sizes(sizes, n, m, table, inputs, answer))
 }
 
 // Lays out, then looks up with skipping: a lookup's refusals. On 0 the first m entries of `answer` are set. `reads` is how many
@@ -86,8 +79,8 @@ pub extern "C" fn tenahvar_lookup_skipping(
         answer.new }
 {
     let counted = walk::skipping_by_sizes(sizes, n, m, table, inputs, answer);
-    *reads = counted.reads;
-    counted.refusal
+    *reads = counted.unwrap_or(0);
+    outcome::number(counted)
 }
 
 // Lays out, then finds the node: refusals 1, 2, 3, 5, then 6, 7, 10. On 0 `offset` is where its m entries start in the table.
@@ -102,22 +95,11 @@ pub extern "C" fn tenahvar_node(
 ) -> u32
     ensures { NodeFound sizes.now n m table.now coordinates.now offset.old result offset.new }
 {
-    let grid = layout::layout(*sizes, n, m);
-    if grid.refusal != 0 {
-        return grid.refusal;
-    }
-    let lut = grid.lut;
-    let refusal = nodes::node_refusal(lut, table, coordinates);
-    if refusal != 0 {
-        return refusal;
-    }
-    let first = nodes::node_offset(lut, table, coordinates);
-    *offset = first.0 as usize;
-    0
+    outcome::number(answers::find(sizes, n, m, table, coordinates, offset))
 }
 
-// Lays out, then cuts out a slab: refusals 1, 2, 3, 5, then 6, 11, 12, 8. On 0 the table with ink j, counted from 1, on line k, counted from 0, stands in the
-// first entries of `slab`; it is looked up with the other inks' sizes and one ink fewer.
+// Lays out, then cuts out a slab: refusals 1, 2, 3, 5, then 6, 11, 12, 8. On 0 the table with ink j, counted from 1, on line k,
+// counted from 0, stands in the first entries of `slab`; it is looked up with the other inks' sizes and one ink fewer.
 #[unsafe(no_mangle)]
 pub extern "C" fn tenahvar_cut_slab(
     sizes: &[u8; 16],
@@ -130,11 +112,7 @@ pub extern "C" fn tenahvar_cut_slab(
 ) -> u32
     ensures { SlabTaken sizes.now n m table.now j k slab.old result slab.new }
 {
-    let whole = layout::layout(*sizes, n, m);
-    if whole.refusal != 0 {
-        return whole.refusal;
-    }
-    grid_slab::cut_slab(whole.lut, table, j, k, slab)
+    outcome::number(answers::cut(sizes, n, m, table, j, k, slab))
 }
 
 // Reads a CLUT element: refusals 13, 1, 2, 3, 5, 14, 15, 8. On 0 `sizes` is the record's and the first total places of `entries` are set;
@@ -149,14 +127,7 @@ pub extern "C" fn tenahvar_read_clut(
 ) -> u32
     ensures { ClutTaken element.now n m sizes.old entries.old result sizes.new entries.new }
 {
-    let read = clut::read_clut(element, n, m, entries);
-    if read.refusal != 0 {
-        return read.refusal;
-    }
-    let lut = read.lut;
-    let grid_sizes = lut.grid_sizes;
-    *sizes = grid_sizes;
-    0
+    outcome::number(answers::read(element, n, m, sizes, entries))
 }
 
 // Values of one byte or of two as numbers from 0 to 1: refusals 14, 15, 8. On 0 the first `count` places of `entries` are set.
@@ -169,7 +140,7 @@ pub extern "C" fn tenahvar_read_units(
 ) -> u32
     ensures { UnitsRead bytes.now precision count entries.old result entries.new }
 {
-    clut::read_units(bytes, precision, count, entries)
+    outcome::number(clut::read_units(bytes, precision, count, entries))
 }
 
 // The cells of all 256 codes on an axis of g lines: lower nodes, upper nodes and weights. Refused, nothing is written.
@@ -182,19 +153,7 @@ pub extern "C" fn tenahvar_create_ranged_256(
 ) -> u32
     ensures { RangedInto g x.old x_n.old w.old result x.new x_n.new w.new }
 {
-    if g == 0 {
-        return 3;
-    }
-    let mut i: usize = 0;
-    while i < 256 {
-        let ranged = weights::ranged_256(g, i as u8);
-        let c = ranged.cell;
-        x[i] = c.x;
-        x_n[i] = c.x_n;
-        w[i] = c.w;
-        i += 1;
-    }
-    0
+    outcome::number(answers::range(g, x, x_n, w))
 }
 
 // The pyramid method: refusals 2, 3, 6, 8, 10.
@@ -210,22 +169,8 @@ pub extern "C" fn tenahvar_pyramidal(
 ) -> u32
     ensures { BlendedAt pyramid x.now x_n.now w.now g m cube.now answer.old result answer.new }
 {
-    let cx = Cell {
-        x: x[0],
-        x_n: x_n[0],
-        w: w[0],
-    };
-    let cy = Cell {
-        x: x[1],
-        x_n: x_n[1],
-        w: w[1],
-    };
-    let cz = Cell {
-        x: x[2],
-        x_n: x_n[2],
-        w: w[2],
-    };
-    cubes::pyramidal(cx, cy, cz, g, m, cube, answer)
+    let cube = Cube { g, m, entries: cube };
+    outcome::number(cubes::interpolate(Method::Pyramidal, cells(x, x_n, w), cube, answer))
 }
 
 // The prism method: refusals 2, 3, 6, 8, 10.
@@ -241,22 +186,8 @@ pub extern "C" fn tenahvar_prismatic(
 ) -> u32
     ensures { BlendedAt prism x.now x_n.now w.now g m cube.now answer.old result answer.new }
 {
-    let cx = Cell {
-        x: x[0],
-        x_n: x_n[0],
-        w: w[0],
-    };
-    let cy = Cell {
-        x: x[1],
-        x_n: x_n[1],
-        w: w[1],
-    };
-    let cz = Cell {
-        x: x[2],
-        x_n: x_n[2],
-        w: w[2],
-    };
-    cubes::prismatic(cx, cy, cz, g, m, cube, answer)
+    let cube = Cube { g, m, entries: cube };
+    outcome::number(cubes::interpolate(Method::Prismatic, cells(x, x_n, w), cube, answer))
 }
 
 // The trilinear method: refusals 2, 3, 6, 8, 10.
@@ -272,20 +203,6 @@ pub extern "C" fn tenahvar_trilinear(
 ) -> u32
     ensures { BlendedAt trilinear x.now x_n.now w.now g m cube.now answer.old result answer.new }
 {
-    let cx = Cell {
-        x: x[0],
-        x_n: x_n[0],
-        w: w[0],
-    };
-    let cy = Cell {
-        x: x[1],
-        x_n: x_n[1],
-        w: w[1],
-    };
-    let cz = Cell {
-        x: x[2],
-        x_n: x_n[2],
-        w: w[2],
-    };
-    cubes::trilinear(cx, cy, cz, g, m, cube, answer)
+    let cube = Cube { g, m, entries: cube };
+    outcome::number(cubes::interpolate(Method::Trilinear, cells(x, x_n, w), cube, answer))
 }

@@ -5,7 +5,6 @@ use mathlib.Core.Path.{◌≡◌, refl, ap, ◌∙◌, subst}
 use mathlib.Core.Bool.{Bool, true, false, not, ◌&&◌}
 use borrow.Author.Tests.{eqb-true, not-true}
 use native.Mathlib.Omega.{arith}
-use lib.Count.{count_trailing_zeros}
 use lib.Dec.{eqb, T}
 use lib.Ieee.{binary32, fits, nan_bits, to_bits, of_bits, of_fields, odd, units, round, size, span, climb, neg, sum, add, sub, mul, of_int}
 use lib.Ieee.Bits.{of_bits-to_bits}
@@ -27,7 +26,7 @@ unfoldable pub holds : ℕ × ℕ × ℕ → Cell → Bool
 holds e c = eqb e.0 c.x && (eqb e.1 c.x_n && (eqb e.2 (to_bits binary32 c.w) && not (nan_bits binary32 e.2)))
 
 all : every (λ k. holds (entry k) (weight_cell 33 k)) (tabulate 256 (λ k. k)) ≡ true
-unfolding every tabulate holds nan_bits weight_cell cell_of scale_of mul sub add sum neg round units odd size span climb count_trailing_zeros of_int of_bits of_fields to_bits
+unfolding every tabulate holds weight_cell cell_of scale_of mul sub add sum neg round units odd size span climb of_int of_bits of_fields to_bits nan_bits
 all = refl
 
 at_each : (index : ℕ) → index < 256 → holds (entry index) (weight_cell 33 index) ≡ true
@@ -41,14 +40,16 @@ unfolding weight_cell cell_of
 fits-w index = sub-fits binary32 _ _
 
 -- what the test says
-parts : (e : ℕ × ℕ × ℕ) (c : Cell) → holds e c ≡ true → (e.0 ≡ c.x) × (e.1 ≡ c.x_n) × (e.2 ≡ to_bits binary32 c.w) × (nan_bits binary32 e.2 ≡ false)
+parts : (e : ℕ × ℕ × ℕ) (c : Cell) → holds e c ≡ true
+    → (e.0 ≡ c.x) × (e.1 ≡ c.x_n) × (e.2 ≡ to_bits binary32 c.w) × (nan_bits binary32 e.2 ≡ false)
 unfolding holds
 parts e c h = grind (arith, eqb-true, not-true, and_parts)
 
 pub entry-number : (index : ℕ) → index < 256 → nan_bits binary32 (entry index).2 ≡ false
 entry-number index l = (parts _ _ (at_each index l)).3
 
-pub entry-cell : (index : ℕ) → index < 256 → let e = entry index in record { x = e.0; x_n = e.1; w = of_bits binary32 e.2 } ≡ weight_cell 33 index
+pub entry-cell : (index : ℕ) → index < 256
+    → let e = entry index in record { x = e.0; x_n = e.1; w = of_bits binary32 e.2 } ≡ weight_cell 33 index
 entry-cell index l =
     let c = weight_cell 33 index in
     let is = parts _ c (at_each index l) in

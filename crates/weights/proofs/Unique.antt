@@ -1,5 +1,6 @@
 -- Each public function asks nothing of its caller, and its statement leaves one outcome.
 -- Assumes nothing.
+use Prim.Native.Nat.{ℕ}
 use mathlib.Core.Path.{◌≡◌, refl, sym, ap, ◌∙◌}
 use Rattle.std.specs.Prelude.{Result, List}
 use Rattle.cell.specs.declared.Cell.{Cell}
@@ -17,11 +18,15 @@ use Rattle.weights.proofs.create_ranged_256.Reads as create-ranged-256-reads
 -- two answers that say the same are one
 same-cell : (x y : Result Cell Refusal) → ranged_cell_in x ≡ ranged_cell_in y → x ≡ y
 same-cell x y h =
-    same_answer x y (ap (λ (r : RangedCell). r.refusal) h) (λ a b p q. ap (λ (r : RangedCell). r.cell) (sym (ap ranged_cell_in p) ∙ h ∙ ap ranged_cell_in q))
+    let cell : RangedCell → Cell = λ r. r.cell in
+    let number : RangedCell → ℕ = λ r. r.refusal in
+    same_answer x y (ap number h) (λ a b p q. ap cell (sym (ap ranged_cell_in p) ∙ h ∙ ap ranged_cell_in q))
 
 same-weights : (x y : Result (List Cell) Refusal) → ranged_in x ≡ ranged_in y → x ≡ y
 same-weights x y h =
-    same_answer x y (ap (λ (r : Ranged). r.refusal) h) (λ a b p q. ap (λ (r : Ranged). r.weights) (sym (ap ranged_in p) ∙ h ∙ ap ranged_in q))
+    let weights : Ranged → List Cell = λ r. r.weights in
+    let number : Ranged → ℕ = λ r. r.refusal in
+    same_answer x y (ap number h) (λ a b p q. ap weights (sym (ap ranged_in p) ∙ h ∙ ap ranged_in q))
 
 pub ranged-256-unique : OneOutcome 0 ranged-256-kinds.ps ranged-256-kinds.r ranged-256-reads.Post
 ranged-256-unique κs a x y ws vs p q = (same-cell x y (p ∙ sym q), refl)

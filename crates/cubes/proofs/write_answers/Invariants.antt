@@ -6,4 +6,5 @@ use Rattle.cubes.proofs.write_answers.Given as goal
 
 abbrev pub invariant-loop-output : goal.invariant-loop-output
 invariant-loop-output l =
-    l.answer ≡ written (λ k. blend_of l.method (entries_at (corner_at l.starts) l.cube.entries.now k) l.weights.red l.weights.green l.weights.blue) l.output l.initial.answer
+    let corners = entries_at (corner_at l.starts) l.cube.entries.now in
+    l.answer ≡ written (λ o. blend_of l.method (corners o) l.weights.red l.weights.green l.weights.blue) l.output l.initial.answer
