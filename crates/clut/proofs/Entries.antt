@@ -1,6 +1,10 @@
--- A value by its bytes: `value-one`, `value-two`. Assumes nothing.
-use Rattle.std.proofs.Common.{◌≡◌, ℕ, suc, ◌+◌, ◌*◌, ◌≤◌, ◌<◌, List, [], ◌∷◌, length, get_or, take, drop, arith, ap, ◌∙◌, length-drop, get_or-drop}
+-- A value by its bytes: `value-one`, `value-two`. Entries written one after another: `one-more`, `four-more`. Assumes nothing.
+use Rattle.std.proofs.Common.{◌≡◌, ℕ, ◌+◌, ◌*◌, ◌≤◌, List, [], ◌∷◌, length, get_or, take, drop, arith, refl, sym, ap, ◌∙◌, length-drop, get_or-drop}
+use lib.Ieee.{Float}
+use lib.ListN.{set}
 use Rattle.lists.specs.Bytes.{big_endian}
+use Rattle.lists.specs.Buffer.{written}
+use Rattle.lists.proofs.Buffer.{written_next}
 use Rattle.clut.specs.Units.{value_at}
 
 one : (xs : List ℕ) → 1 ≤ length xs → big_endian (take 1 xs) ≡ get_or xs 0 0
@@ -25,3 +29,17 @@ module _ (bytes : List ℕ) (e : ℕ) where
       two (drop (2 * e) bytes) (omega (arith, length-drop (2 * e) bytes))
       ∙ (λ i. get_or-drop (2 * e) bytes 0 0 i * 256 + get_or-drop (2 * e) bytes 1 0 i)
       ∙ ap (λ (i : ℕ). get_or bytes i 0 * 256 + get_or bytes (2 * e + 1) 0) (omega arith)
+
+-- ---- after e entries of a rule
+
+module _ (f : ℕ → Float) (old : List Float) where
+  pub one-more : (e next : ℕ) (now : List Float) (x : Float) → next ≡ e + 1 → now ≡ written f e old → x ≡ f e → set now e x ≡ written f next old
+  one-more e next now x after so_far is = (λ i. set (so_far i) e (is i)) ∙ written_next f e old ∙ ap (λ (n : ℕ). written f n old) (sym after)
+
+  pub four-more : (e next : ℕ) (now : List Float) (a b c d : Float) → next ≡ e + 4 → now ≡ written f e old → a ≡ f e → b ≡ f (e + 1) → c ≡ f (e + 2) → d ≡ f (e + 3)
+      → set (set (set (set now e a) (e + 1) b) (e + 2) c) (e + 3) d ≡ written f next old
+  four-more e next now a b c d after so_far p q r s =
+      one-more (e + 3) next _ d (omega arith)
+      (one-more (e + 2) (e + 3) _ c (omega arith)
+      (one-more (e + 1) (e + 2) _ b (omega arith)
+      (one-more e (e + 1) now a refl so_far p) q) r) s

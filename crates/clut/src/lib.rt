@@ -37,7 +37,12 @@ fn check(precision: usize, bytes: usize, count: usize, room: usize) -> Result<Wi
 
 // The first `count` values of the bytes, of `precision` bytes each, as numbers from 0 to 1: checks 14, 15, 8, and sets the first `count` places of `entries`.
 // Refused, nothing is written.
-pub fn read_units(bytes: &[u8], precision: usize, count: usize, entries: &mut [f32]) -> Result<(), Refusal>
+pub fn read_units(
+    bytes: &[u8],
+    precision: usize,
+    count: usize,
+    entries: &mut [f32],
+) -> Result<(), Refusal>
     ensures { UnitsRead bytes.now precision count entries.old (number_in result) entries.new }
 {
     let width = check(precision, bytes.len(), count, entries.len())?;
@@ -47,7 +52,12 @@ pub fn read_units(bytes: &[u8], precision: usize, count: usize, entries: &mut [f
 
 // Reads an element for n inks in and m out: checks 13, 1, 2, 3, 5, 14, 15, 8. Answers the layout, and sets the first total places of `entries`.
 // Refused, nothing is written.
-pub fn read_clut(element: &[u8], n: usize, m: usize, entries: &mut [f32]) -> Result<MultidimensionalLut, Refusal>
+pub fn read_clut(
+    element: &[u8],
+    n: usize,
+    m: usize,
+    entries: &mut [f32],
+) -> Result<MultidimensionalLut, Refusal>
     ensures { ClutRead element.now n m entries.old (laid_in result) entries.new }
 {
     if element.len() < HEADER {

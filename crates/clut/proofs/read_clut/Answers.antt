@@ -1,5 +1,5 @@
 -- In each case the number is the definition's, and what was checked is what is read.
-use Rattle.std.proofs.Common.{◌≡◌, ℕ, List, refl, ap, ◌∙◌, arith}
+use Rattle.std.proofs.Common.{ℕ, List, refl, ap, ◌∙◌, arith}
 use Rattle.std.proofs.lemmas.Result.{err_from_is_err_and}
 use Rattle.outcome.proofs.Numbers.{not_done}
 use Rattle.outcome.proofs.Refused.{kept}
@@ -9,7 +9,7 @@ use Rattle.clut.proofs.read_clut.Goals as goal
 
 pub returns-then-element-lt-HEADER : goal.returns-then-element-lt-HEADER
 returns-then-element-lt-HEADER c =
-    clut-refused _ _ _ _ 13 (λ e. omega arith) (short-element _ _ _ _ c.if-element-lt-HEADER.true) _ refl
+    clut-refused _ _ _ _ 13 (λ e. omega arith) (short-element _ _ _ _ (omega arith)) _ refl
 
 pub returns-in_err-lut : goal.returns-in_err-lut
 returns-in_err-lut c =

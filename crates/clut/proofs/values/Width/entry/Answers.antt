@@ -1,6 +1,5 @@
 -- The value by its bytes, divided by the largest.
-use Rattle.std.proofs.Common.{◌≡◌, ℕ, rules, refl, sym, ap, ◌∙◌, arith}
-use Rattle.binary32.specs.Numbers.{unit_of}
+use Rattle.std.proofs.Common.{◌∙◌}
 use Rattle.clut.specs.Units.{entry_at}
 use Rattle.clut.proofs.Entries.{value-one, value-two}
 use Rattle.clut.proofs.values.Width.entry.Goals as goal
