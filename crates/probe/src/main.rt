@@ -4,6 +4,7 @@
 use std::io::{self, Read, Write};
 
 fn main(rt: HostRuntime) -> io::Result<()> {
+    // Stays: (a) a buffer and a count, as the probe uses no heap.
     let mut input = [0u8; 16384];
     let mut from = rt.reader();
     let mut count: usize = 0;

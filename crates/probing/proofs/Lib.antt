@@ -1,3 +1,3 @@
-pub mod Digits
+pub mod Blanks
 pub mod Shown
 pub mod Unique

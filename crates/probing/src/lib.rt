@@ -80,6 +80,7 @@ fn reported(input: &[u8]) -> Report
 }
 
 // Writes what the probe prints for the input to the start of `out`, and answers how many bytes that is.
+// Stays: (a) a buffer and a length, as the clause `Probed` has them, since the library uses no heap.
 pub fn probed(input: &[u8], out: &mut [u8; 141]) -> usize
     ensures { Probed input.now out.old result out.new }
 {

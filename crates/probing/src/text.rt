@@ -5,6 +5,7 @@ ghost use Rattle.probing.specs.Text.{decimal_of, bits_of, spaced, head_of, repor
 use std::marker::Model;
 
 // The first `len` of the bytes. The longest report is that of fifteen answers.
+// Stays: (a) a buffer and a length, as the library uses no heap; only `push` and `as_slice` see them.
 #[derive(Drop)]
 pub(crate) struct Report {
     bytes: [u8; 141],

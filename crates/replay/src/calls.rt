@@ -15,10 +15,10 @@ impl<W: Write> Replay<'_, W> {
         let inputs = self.list.floats()?;
         let mut left = self.list.floats()?;
         let mut walked = left.clone()?;
-        let number = lookup::lookup(lut, &table, &inputs, &mut left);
-        self.out.answer(number, &left)?;
+        let answered = lookup::lookup(lut, &table, &inputs, &mut left);
+        self.out.answer(answered, &left)?;
         let again = walk::lookup(lut, &table, &inputs, &mut walked);
-        if again != number || !floats::same(&left, &walked) {
+        if again != answered || !floats::same(&left, &walked) {
             self.out.out.write_all(b" engines differ: ")?;
             self.out.answer(again, &walked)?;
         }
@@ -32,8 +32,8 @@ impl<W: Write> Replay<'_, W> {
         let inputs = self.list.floats()?;
         let mut left = self.list.floats()?;
         let counted = walk::skipping(lut, &table, &inputs, &mut left);
-        self.out.number(counted.refusal)?;
-        self.out.word(counted.reads)?;
+        self.out.number(outcome::number(counted))?;
+        self.out.word(counted.unwrap_or(0))?;
         self.out.floats(&left)
     }
 
@@ -41,9 +41,11 @@ impl<W: Write> Replay<'_, W> {
         let lut = self.list.changed_layout();
         let table = self.list.table(40000)?;
         let coordinates = self.list.coordinates()?;
-        let number = nodes::node_refusal(lut, &table, &coordinates);
-        self.out
-            .answer(number, nodes::node(lut, &table, &coordinates))
+        let refused = nodes::check_node(lut, &table, &coordinates);
+        self.out.answer(
+            refused,
+            nodes::node(lut, &table, &coordinates).unwrap_or(&[]),
+        )
     }
 
     // Cuts ink j at line k out of a table: what that answers, and what it leaves in the buffer.
@@ -53,7 +55,7 @@ impl<W: Write> Replay<'_, W> {
         let j = self.list.number();
         let k = self.list.number();
         let mut left = self.list.table(4096)?;
-        let number = grid_slab::cut_slab(lut, &table, j, k, &mut left);
-        self.out.answer(number, &left)
+        let answered = grid_slab::cut_slab(lut, &table, j, k, &mut left);
+        self.out.answer(answered, &left)
     }
 }

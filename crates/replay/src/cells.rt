@@ -4,6 +4,13 @@ use crate::words::low_word;
 use cell::Cell;
 use std::io::{self, Write};
 
+// What is printed of a refused weight.
+const NONE: Cell = Cell {
+    x: 0,
+    x_n: 0,
+    w: 0.0,
+};
+
 // One byte more of FNV-1a.
 fn summed(sum: u32, byte: u8) -> u32 {
     (sum ^ u32::from(byte)).wrapping_mul(0x01000193)
@@ -29,9 +36,10 @@ impl<W: Write> Replay<'_, W> {
     pub(crate) fn weight(&mut self) -> io::Result<()> {
         let g = self.list.byte();
         let ranged = weights::ranged_256(g, self.list.byte());
-        self.out.number(ranged.refusal)?;
-        self.out.word(low_word(ranged.cell.x))?;
-        self.cell_after(ranged.cell)
+        let cell = ranged.unwrap_or(NONE);
+        self.out.number(outcome::number(ranged))?;
+        self.out.word(low_word(cell.x))?;
+        self.cell_after(cell)
     }
 
     pub(crate) fn constant(&mut self) -> io::Result<()> {
@@ -43,10 +51,10 @@ impl<W: Write> Replay<'_, W> {
     pub(crate) fn weights(&mut self) -> io::Result<()> {
         let ranged = weights::create_ranged_256(self.list.byte());
         let mut sum: u32 = 0x811c9dc5;
-        for cell in ranged.weights {
+        for cell in ranged.unwrap_or([NONE; 256]) {
             sum = summed_cell(sum, cell);
         }
-        self.out.number(ranged.refusal)?;
+        self.out.number(outcome::number(ranged))?;
         self.out.word(sum)
     }
 }

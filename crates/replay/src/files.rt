@@ -20,8 +20,8 @@ impl<W: Write> Replay<'_, W> {
         let count = self.list.number();
         let mut left = self.list.table(4096)?;
         let values = self.list.bytes()?;
-        let number = clut::read_units(&values, precision, count, &mut left);
-        self.out.answer(number, &left)
+        let answered = clut::read_units(&values, precision, count, &mut left);
+        self.out.answer(answered, &left)
     }
 
     // A table, and a buffer of bytes that are all alike: what writing the file answers, and what it leaves in the buffer.
@@ -29,8 +29,8 @@ impl<W: Write> Replay<'_, W> {
         let lut = self.list.changed_layout();
         let table = self.list.table_bits()?;
         let mut left = self.list.alike()?;
-        let number = flash::write_table(lut, &table, &mut left);
-        self.out.number(number)?;
+        let written = flash::write_table(lut, &table, &mut left);
+        self.out.number(outcome::number(written))?;
         self.out.file(&left)
     }
 

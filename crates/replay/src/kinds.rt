@@ -1,4 +1,5 @@
 // The kinds of cases.
+use cubes::Method;
 
 #[derive(Clone, Copy)]
 pub(crate) enum Kind {
@@ -7,9 +8,7 @@ pub(crate) enum Kind {
     Node,
     Weight,
     Weights,
-    Pyramidal,
-    Prismatic,
-    Trilinear,
+    Blend(Method),
     Constant,
     Clut,
     Slab,
@@ -28,9 +27,9 @@ impl Kind {
             3 => Some(Kind::Node),
             4 => Some(Kind::Weight),
             5 => Some(Kind::Weights),
-            6 => Some(Kind::Pyramidal),
-            7 => Some(Kind::Prismatic),
-            8 => Some(Kind::Trilinear),
+            6 => Some(Kind::Blend(Method::Pyramidal)),
+            7 => Some(Kind::Blend(Method::Prismatic)),
+            8 => Some(Kind::Blend(Method::Trilinear)),
             9 => Some(Kind::Constant),
             10 => Some(Kind::Clut),
             11 => Some(Kind::Slab),

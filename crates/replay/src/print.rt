@@ -1,4 +1,5 @@
 // The words that are printed.
+use outcome::Refusal;
 use std::io::{self, Write};
 
 #[derive(Drop)]
@@ -74,9 +75,9 @@ impl<W: Write> Lines<W> {
         }
     }
 
-    // The words of a call that answers a number and leaves floats.
-    pub(crate) fn answer(&mut self, answered: u32, left: &[f32]) -> io::Result<()> {
-        self.number(answered)?;
+    // The words of a call: its number, and the floats that it leaves.
+    pub(crate) fn answer(&mut self, answered: Result<(), Refusal>, left: &[f32]) -> io::Result<()> {
+        self.number(outcome::number(answered))?;
         self.floats(left)
     }
 

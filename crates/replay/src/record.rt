@@ -1,7 +1,8 @@
 // Records: a layout's with one place changed where the list says so, or each place listed; and how they are printed.
 use crate::print::Lines;
 use crate::words::{Words, low_word};
-use layout::{Laid, MultidimensionalLut};
+use layout::MultidimensionalLut;
+use outcome::Refusal;
 use std::io::{self, Write};
 
 // Places 0 to 15 are the strides, 16 to 31 the filling sizes, 32 to 47 the scales, 48 to 63 the sizes, then n and m.
@@ -25,7 +26,7 @@ fn change(lut: &mut MultidimensionalLut, place: usize, value: usize) {
 impl Words<'_> {
     // A record whose places are listed one by one from the first one on; those before it are zeros.
     pub(crate) fn record(&mut self, first: usize) -> MultidimensionalLut {
-        let mut lut = layout::refused(0).lut;
+        let mut lut = MultidimensionalLut::default();
         for place in first..66 {
             change(&mut lut, place, self.number());
         }
@@ -33,14 +34,14 @@ impl Words<'_> {
     }
 
     // The layout of sixteen sizes, n and m, which are the last places of a record.
-    pub(crate) fn layout(&mut self) -> Laid {
+    pub(crate) fn layout(&mut self) -> Result<MultidimensionalLut, Refusal> {
         let given = self.record(48);
         layout::layout(given.grid_sizes, given.input_inks, given.output_inks)
     }
 
-    // The record of a layout, with a place of it changed to a value.
+    // The record of a layout, zeros where it is refused, with a place of it changed to a value.
     pub(crate) fn changed_layout(&mut self) -> MultidimensionalLut {
-        let mut lut = self.layout().lut;
+        let mut lut = self.layout().unwrap_or_default();
         let place = self.number();
         change(&mut lut, place, self.number());
         lut
@@ -59,8 +60,9 @@ impl<W: Write> Lines<W> {
         self.word(low_word(lut.output_inks))
     }
 
-    pub(crate) fn laid(&mut self, laid: Laid) -> io::Result<()> {
-        self.number(laid.refusal)?;
-        self.record(laid.lut)
+    // The number, and the record: zeros on a refusal.
+    pub(crate) fn laid(&mut self, laid: Result<MultidimensionalLut, Refusal>) -> io::Result<()> {
+        self.number(outcome::number(laid))?;
+        self.record(laid.unwrap_or_default())
     }
 }

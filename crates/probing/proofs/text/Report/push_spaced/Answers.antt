@@ -2,7 +2,7 @@
 use Rattle.std.proofs.Common.{ℕ, ◌<◌, List, [], ◌∷◌, ◌++◌, ap, sym, ◌∙◌, length, get_or, add-one, append-nil, append_assoc, length-append, arith}
 use Rattle.std.specs.Float.{nan}
 use Rattle.probing.specs.Text.{blank, bits_of, after_blanks}
-use Rattle.probing.proofs.Digits.{blanks-next}
+use Rattle.probing.proofs.Blanks.{blanks-next}
 use Rattle.probing.proofs.text.Report.push_spaced.Goals as goal
 
 pub loop-x-init : goal.loop-x-init
