@@ -17,7 +17,8 @@ use Rattle.walk.specs.Blocks.{Gives}
 use Rattle.walk.specs.Steps.{step_cell, stepped, lows, fourth, tetra_of, Near}
 use Rattle.walk.specs.Walk.{above}
 use Rattle.walk.specs.Kept.{kept, reads_in}
-use Rattle.walk.specs.Calls.{Ready, Cubed, plan_of}
+use Rattle.walk.specs.declared.Call.{Call}
+use Rattle.walk.specs.Calls.{ink_of, first_of, inks_of, Ready, Cubed, plan_of}
 use Rattle.walk.proofs.Above.{above-answer, reach-over}
 use Rattle.walk.proofs.Tetrahedron.{near, plan-answers}
 use Rattle.walk.proofs.Reading.{Proper, cells-proper, cells-done, all-numbers, nans-next}
@@ -28,18 +29,18 @@ stepped-over : (hs ts : List Cell) → stepped (hs ++ ts) ≡ stepped hs ++ step
 stepped-over [] ts = refl
 stepped-over (h ∷ hs) ts = ap (λ (l : List Cell). step_cell (h.x_n - h.x) h.w ∷ l) (stepped-over hs ts)
 
-module _ {filling sizes : List ℕ} {m : ℕ} {table xs : List Float} (ready : Ready filling sizes m table xs) (from : 3 ≤ length xs) where
+module _ {call : Call} (ready : Ready call) (from : 3 ≤ length call.inputs.now) where
   abbrev c : Cell
-  c = placed_ink filling sizes xs 0
+  c = ink_of call 0
 
   abbrev d : Cell
-  d = placed_ink filling sizes xs 1
+  d = ink_of call 1
 
   abbrev e : Cell
-  e = placed_ink filling sizes xs 2
+  e = ink_of call 2
 
   abbrev three : List Cell
-  three = first_inks filling sizes xs 3
+  three = first_of call 3
 
   cube : Proper three
   cube = cells-proper ready 3 from
@@ -48,14 +49,14 @@ module _ {filling sizes : List ℕ} {m : ℕ} {table xs : List Float} (ready : R
     pub cube-near : Near p
     cube-near = subst Near (sym plan) (near (c.x_n - c.x) (d.x_n - d.x) (e.x_n - e.x) c.w d.w e.w)
 
-    module _ (hs : List Cell) (n : ℕ) (is : length xs ≡ n) (all : hs ++ three ≡ first_inks filling sizes xs n) (at : ℕ) (base : at ≡ lows (first_inks filling sizes xs n)) where
+    module _ (hs : List Cell) (n : ℕ) (is : length call.inputs.now ≡ n) (all : hs ++ three ≡ first_of call n) (at : ℕ) (base : at ≡ lows (first_of call n)) where
       abbrev part : List Float
-      part = take (length table - at) (drop at table)
+      part = take (length call.table.now - at) (drop at call.table.now)
 
-      parts-are : stepped (first_inks filling sizes xs n) ≡ stepped hs ++ stepped three
+      parts-are : stepped (first_of call n) ≡ stepped hs ++ stepped three
       parts-are = ap stepped (sym all) ∙ stepped-over hs three
 
-      pub cube-reach : p.far + reach (stepped hs) + m ≤ length part
+      pub cube-reach : p.far + reach (stepped hs) + call.m ≤ length part
       cube-reach =
           let far = ap (λ (q : Plan). q.far) plan in
           let over = ap reach parts-are ∙ reach-over (stepped hs) (stepped three) in
@@ -66,7 +67,7 @@ module _ {filling sizes : List ℕ} {m : ℕ} {table xs : List Float} (ready : R
         abbrev pub cube_answers : ℕ → Float
         cube_answers o = above (tetra_of p o) (kept skip (stepped hs)) part
 
-        same : (o : ℕ) → o < m → cube_answers o ≡ answer_by skip table (first_inks filling sizes xs n) o
+        same : (o : ℕ) → o < call.m → cube_answers o ≡ answer_by skip call.table.now (first_of call n) o
         same o h =
             above-answer (step_cell (c.x_n - c.x) c.w) (step_cell (d.x_n - d.x) d.w) (step_cell (e.x_n - e.x) e.w) o (tetra_of p o)
             (λ t. ap (λ (q : Plan). tetra_of q o t) plan
@@ -76,12 +77,12 @@ module _ {filling sizes : List ℕ} {m : ℕ} {table xs : List Float} (ready : R
             ∙ ap (λ (l : List Cell). answer_by skip part l o) (sym parts-are)
             ∙ part-answers ready n is at base skip o
 
-        pub cube-done : NoNans xs n → (f : ℕ → Float) → ((o : ℕ) → f o ≡ cube_answers o) → (old given : List Float) → m ≤ length old
-            → Gives f m (take m old) given → Done skip sizes m table xs old (given ++ drop m old)
+        pub cube-done : NoNans call.inputs.now n → (f : ℕ → Float) → ((o : ℕ) → f o ≡ cube_answers o) → (old given : List Float) → call.m ≤ length old
+            → Gives f call.m (take call.m old) given → Done skip call old (given ++ drop call.m old)
         cube-done each f are old given room gives =
-            cells-done ready n skip is (all-numbers xs n each is) f (λ o h. are o ∙ same o h) old _ (prefix-written f m old given room gives)
+            cells-done ready n skip is (all-numbers call.inputs.now n each is) f (λ o h. are o ∙ same o h) old _ (prefix-written f call.m old given room gives)
 
-        pub cube-reads : 6 * 2 ^ active skip (weights_of hs) ≡ reads_in skip (last_first (length xs) sizes) xs
+        pub cube-reads : 6 * 2 ^ active skip (weights_of hs) ≡ reads_in skip (last_first (length call.inputs.now) call.sizes.now) call.inputs.now
         cube-reads =
             let ws = weights_of (hs ++ three) in
             let some = length-weights (hs ++ three) ∙ length-append hs three in
@@ -92,52 +93,52 @@ module _ {filling sizes : List ℕ} {m : ℕ} {table xs : List Float} (ready : R
 
 -- ---- three inks alone, and four
 
-module _ {filling sizes : List ℕ} {m : ℕ} {table xs : List Float} (ready : Ready filling sizes m table xs) {p : Plan} {at : ℕ} (cubed : Cubed filling sizes xs p at) where
-  module _ (is : length xs ≡ 3) where
-    some3 : 3 ≤ length xs
+module _ {call : Call} (ready : Ready call) {p : Plan} {at : ℕ} (cubed : Cubed call p at) where
+  module _ (is : length call.inputs.now ≡ 3) where
+    some3 : 3 ≤ length call.inputs.now
     some3 = omega arith
 
-    pub three-starts : at + m ≤ length table
+    pub three-starts : at + call.m ≤ length call.table.now
     three-starts = part-starts ready 3 is at cubed.base
 
-    pub three-near : Near p × (p.far + m ≤ length (take (length table - at) (drop at table)))
+    pub three-near : Near p × (p.far + call.m ≤ length (take (length call.table.now - at) (drop at call.table.now)))
     three-near = (cube-near ready some3 p cubed.plan, omega (arith, cube-reach ready some3 p cubed.plan [] 3 is refl at cubed.base))
 
-    pub three-done : (skip : Float → Bool) (old given : List Float) → m ≤ length old → Gives (λ o. tetra_of p o (take (length table - at) (drop at table))) m (take m old) given
-        → Done skip sizes m table xs old (given ++ drop m old)
+    pub three-done : (skip : Float → Bool) (old given : List Float) → call.m ≤ length old → Gives (λ o. tetra_of p o (take (length call.table.now - at) (drop at call.table.now))) call.m (take call.m old) given
+        → Done skip call old (given ++ drop call.m old)
     three-done skip = cube-done ready some3 p cubed.plan [] 3 is refl at cubed.base skip cubed.numbers _ (λ o. refl)
 
-    pub three-reads : (skip : Float → Bool) → 6 ≡ reads_in skip (last_first (length xs) sizes) xs
+    pub three-reads : (skip : Float → Bool) → 6 ≡ reads_in skip (last_first (length call.inputs.now) call.sizes.now) call.inputs.now
     three-reads skip = cube-reads ready some3 p cubed.plan [] 3 is refl at cubed.base skip
 
-  module _ (is : length xs ≡ 4) (h : Cell) (number : is_nan (get_or xs 3 nan) ≡ false) (ink : h ≡ placed_ink filling sizes xs 3) where
-    some4 : 3 ≤ length xs
+  module _ (is : length call.inputs.now ≡ 4) (h : Cell) (number : is_nan (get_or call.inputs.now 3 nan) ≡ false) (ink : h ≡ ink_of call 3) where
+    some4 : 3 ≤ length call.inputs.now
     some4 = omega arith
 
-    all : h ∷ first_inks filling sizes xs 3 ≡ first_inks filling sizes xs 4
-    all = ap (λ (q : Cell). q ∷ first_inks filling sizes xs 3) ink
+    all : h ∷ first_of call 3 ≡ first_of call 4
+    all = ap (λ (q : Cell). q ∷ first_of call 3) ink
 
-    base : at + h.x ≡ lows (first_inks filling sizes xs 4)
+    base : at + h.x ≡ lows (first_of call 4)
     base = let x = ap (λ (q : Cell). q.x) ink in omega (arith, x, cubed.base)
 
     abbrev upper-part : List Float
-    upper-part = take (length table - (at + h.x)) (drop (at + h.x) table)
+    upper-part = take (length call.table.now - (at + h.x)) (drop (at + h.x) call.table.now)
 
-    pub four-starts : at + h.x + m ≤ length table
+    pub four-starts : at + h.x + call.m ≤ length call.table.now
     four-starts = part-starts ready 4 is (at + h.x) base
 
-    pub four-near : Near p × (p.far + (h.x_n - h.x) + m ≤ length upper-part)
+    pub four-near : Near p × (p.far + (h.x_n - h.x) + call.m ≤ length upper-part)
     four-near = (cube-near ready some4 p cubed.plan, omega (arith, cube-reach ready some4 p cubed.plan (h ∷ []) 4 is all (at + h.x) base))
 
-    pub four-done : (skip : Float → Bool) (alone : Bool) → alone ≡ skip h.w → (old given : List Float) → m ≤ length old
-        → Gives (λ o. fourth alone (tetra_of p o upper-part) (tetra_of p o (drop (h.x_n - h.x) upper-part)) h.w) m (take m old) given
-        → Done skip sizes m table xs old (given ++ drop m old)
+    pub four-done : (skip : Float → Bool) (alone : Bool) → alone ≡ skip h.w → (old given : List Float) → call.m ≤ length old
+        → Gives (λ o. fourth alone (tetra_of p o upper-part) (tetra_of p o (drop (h.x_n - h.x) upper-part)) h.w) call.m (take call.m old) given
+        → Done skip call old (given ++ drop call.m old)
     four-done skip alone skipped =
-        cube-done ready some4 p cubed.plan (h ∷ []) 4 is all (at + h.x) base skip (nans-next xs 3 cubed.numbers number) _
+        cube-done ready some4 p cubed.plan (h ∷ []) 4 is all (at + h.x) base skip (nans-next call.inputs.now 3 cubed.numbers number) _
         (λ o. ap (λ (b : Bool). fourth b (tetra_of p o upper-part) (tetra_of p o (drop (h.x_n - h.x) upper-part)) h.w) skipped
         ∙ fourth-above (skip h.w) (h.x_n - h.x) h.w (tetra_of p o) upper-part)
 
-    pub four-reads : (skip : Float → Bool) (places : ℕ) → places ≡ cond (skip h.w) 0 1 → 6 * 2 ^ (3 + places - 3) ≡ reads_in skip (last_first (length xs) sizes) xs
+    pub four-reads : (skip : Float → Bool) (places : ℕ) → places ≡ cond (skip h.w) 0 1 → 6 * 2 ^ (3 + places - 3) ≡ reads_in skip (last_first (length call.inputs.now) call.sizes.now) call.inputs.now
     four-reads skip places taken =
         let back : 3 + places - 3 ≡ places = omega arith in
         ap (λ (k : ℕ). 6 * 2 ^ k) (back ∙ taken) ∙ cube-reads ready some4 p cubed.plan (h ∷ []) 4 is all (at + h.x) base skip

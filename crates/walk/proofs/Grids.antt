@@ -20,12 +20,12 @@ use Rattle.lookup.proofs.Grid.{inks-weights}
 use Rattle.lookup.proofs.Counts.{length-weights, reads_three}
 use Rattle.lookup.proofs.Part.{from-length}
 use Rattle.walk.specs.declared.Axis.{Axis}
-use Rattle.walk.specs.declared.Plan.{Plan}
 use Rattle.walk.specs.Blocks.{Gives}
-use Rattle.walk.specs.Steps.{axis, step_cell, steps_at, stepped, lows, all_inks, fourth, Weighed, tetra_of, Near}
+use Rattle.walk.specs.Steps.{axis, steps_at, stepped, lows, Weighed}
 use Rattle.walk.specs.Walk.{above}
 use Rattle.walk.specs.Kept.{kept, kept_at, reads_in}
-use Rattle.walk.specs.Calls.{Ready, Cubed, plan_of}
+use Rattle.walk.specs.declared.Call.{Call}
+use Rattle.walk.specs.Calls.{ink_of, first_of, inks_of, Ready, Cubed, plan_of}
 use Rattle.walk.proofs.Above.{above-answer, reach-over}
 use Rattle.walk.proofs.Tetrahedron.{near, plan-answers}
 use Rattle.walk.proofs.Reading.{Proper, cells-proper, cells-reach, cells-done, all-numbers, nans-next}
@@ -79,72 +79,95 @@ prefix-written f m old part room gives =
 -- ---- all inks
 
 -- what is owed where no input is NaN
-abbrev pub Done : (Float → Bool) → List ℕ → ℕ → List Float → List Float → List Float → List Float → Type 0
-Done skip sizes m table xs old now = Settled (answer_in skip (last_first (length xs) sizes) m table xs) m xs old 0 now
+abbrev pub Done : (Float → Bool) → Call → List Float → List Float → Type 0
+Done skip call old now =
+    Settled (answer_in skip (last_first (length call.inputs.now) call.sizes.now) call.m call.table.now call.inputs.now) call.m call.inputs.now old 0 now
 
-module _ {filling sizes : List ℕ} {m : ℕ} {table xs : List Float} (ready : Ready filling sizes m table xs) (n : ℕ) (is : length xs ≡ n) where
+module _ {call : Call} (ready : Ready call) (n : ℕ) (is : length call.inputs.now ≡ n) where
   abbrev cs : List Cell
-  cs = first_inks filling sizes xs n
+  cs = first_of call n
 
   proper : Proper cs
   proper = cells-proper ready n (omega arith)
 
-  pub reads-are : (skip : Float → Bool) → reads skip (weights_of cs) ≡ reads_in skip (last_first (length xs) sizes) xs
-  reads-are skip = ap (reads skip) (inks-weights filling sizes xs m ready.laid table ready.enough n is)
+  pub reads-are : (skip : Float → Bool) → reads skip (weights_of cs) ≡ reads_in skip (last_first (length call.inputs.now) call.sizes.now) call.inputs.now
+  reads-are skip = ap (reads skip) (inks-weights call.filling.now call.sizes.now call.inputs.now call.m ready.laid call.table.now ready.enough n is)
 
   -- the inks themselves
-  pub inks-given : NoNans xs n → (inks : List Cell) → inks ≡ cs → (old part : List Float) → m ≤ length old → Gives (answer table inks) m (take m old) part
-      → (skip : Float → Bool) → ((o : ℕ) → answer table cs o ≡ answer_by skip table cs o) → Done skip sizes m table xs old (part ++ drop m old)
+  pub inks-given : NoNans call.inputs.now n → (inks : List Cell) → inks ≡ cs → (old part : List Float) → call.m ≤ length old → Gives (answer call.table.now inks) call.m (take call.m old) part
+      → (skip : Float → Bool) → ((o : ℕ) → answer call.table.now cs o ≡ answer_by skip call.table.now cs o) → Done skip call old (part ++ drop call.m old)
   inks-given each inks are old part room gives skip same =
-      cells-done ready n skip is (all-numbers xs n each is) (answer table inks) (λ o h. ap (λ (l : List Cell). answer table l o) are ∙ same o) old _
-      (prefix-written (answer table inks) m old part room gives)
+      cells-done ready n skip is (all-numbers call.inputs.now n each is) (answer call.table.now inks) (λ o h. ap (λ (l : List Cell). answer call.table.now l o) are ∙ same o) old _
+      (prefix-written (answer call.table.now inks) call.m old part room gives)
 
   -- the part from the lowest corner on
   module _ (at : ℕ) (base : at ≡ lows cs) where
     abbrev from : List Float
-    from = take (length table - at) (drop at table)
+    from = take (length call.table.now - at) (drop at call.table.now)
 
-    pub part-starts : at + m ≤ length table
+    pub part-starts : at + call.m ≤ length call.table.now
     part-starts = omega (arith, base, stepped-reach cs proper, cells-reach ready n (omega arith))
 
-    pub part-reach : reach (stepped cs) + m ≤ length from
+    pub part-reach : reach (stepped cs) + call.m ≤ length from
     part-reach = rw from-length (omega (arith, base, stepped-reach cs proper, cells-reach ready n (omega arith)))
 
-    pub part-answers : (skip : Float → Bool) (o : ℕ) → answer_by skip from (stepped cs) o ≡ answer_by skip table cs o
-    part-answers skip o = ap (λ (a : ℕ). answer_by skip (take (length table - a) (drop a table)) (stepped cs) o) base ∙ stepped-answer skip table cs proper o
+    pub part-answers : (skip : Float → Bool) (o : ℕ) → answer_by skip from (stepped cs) o ≡ answer_by skip call.table.now cs o
+    part-answers skip o = ap (λ (a : ℕ). answer_by skip (take (length call.table.now - a) (drop a call.table.now)) (stepped cs) o) base ∙ stepped-answer skip call.table.now cs proper o
 
-    -- the inks in arrays, and those of them that are kept
+    -- the inks in an array, and those of them that are kept
     module _ (axes : List Axis) (steps : steps_at axes 0 n ≡ stepped cs) (three : 3 ≤ n)
         (skip : Float → Bool) (axes' : List Axis) (r : ℕ) (kept-are : steps_at axes' 0 r ≡ kept_at skip axes n) where
       all_are : steps_at axes 3 (n - 3) ++ steps_at axes 0 3 ≡ stepped cs
       all_are = sym (three-first axes n three) ∙ steps
 
-      pub array-weights : Weighed axes' r
+      array-weights : Weighed axes' r
       array-weights =
           weighed axes' r (kept_at skip axes n)
           (light-kept skip (steps_at axes 3 (n - 3)) (steps_at axes 0 3) (subst Light (sym all_are) (light-steps cs proper)))
           kept-are
 
-      pub array-reach : reach (steps_at axes' 0 r) + m ≤ length from
+      array-reach : reach (steps_at axes' 0 r) + call.m ≤ length from
       array-reach =
           let fewer = reach-kept skip (steps_at axes 3 (n - 3)) (steps_at axes 0 3) in
           let these = ap reach kept-are in
           let all = ap reach all_are in
           omega (arith, fewer, these, all, part-reach)
 
-      answers : (o : ℕ) → answer from (steps_at axes' 0 r) o ≡ answer_by skip table cs o
+      answers : (o : ℕ) → answer from (steps_at axes' 0 r) o ≡ answer_by skip call.table.now cs o
       answers o =
           ap (λ (l : List Cell). answer from l o) kept-are
           ∙ kept-answer skip (steps_at axes 0 3) refl o (steps_at axes 3 (n - 3)) (at-start-array axes 3 (n - 3)) from
           ∙ ap (λ (l : List Cell). answer_by skip from l o) all_are
           ∙ part-answers skip o
 
-      pub array-done : some is_nan xs ≡ false → (old part : List Float) → m ≤ length old → Gives (answer from (steps_at axes' 0 r)) m (take m old) part
-          → Done skip sizes m table xs old (part ++ drop m old)
+      array-done : some is_nan call.inputs.now ≡ false → (old part : List Float) → call.m ≤ length old → Gives (answer from (steps_at axes' 0 r)) call.m (take call.m old) part
+          → Done skip call old (part ++ drop call.m old)
       array-done none old part room gives =
-          cells-done ready n skip is none (answer_by skip table cs) (λ o h. refl) old (part ++ drop m old)
-          (prefix-written (answer_by skip table cs) m old part room
+          cells-done ready n skip is none (answer_by skip call.table.now cs) (λ o h. refl) old (part ++ drop call.m old)
+          (prefix-written (answer_by skip call.table.now cs) call.m old part room
           record { room = gives.room; answers = λ o h. gives.answers o h ∙ answers o })
 
-      pub array-reads : 6 * 2 ^ (r - 3) ≡ reads_in skip (last_first (length xs) sizes) xs
+      array-reads : 6 * 2 ^ (r - 3) ≡ reads_in skip (last_first (length call.inputs.now) call.sizes.now) call.inputs.now
       array-reads = sym (kept-reads skip axes n three axes' r kept-are) ∙ ap (reads skip) (ap weights_of steps ∙ stepped-weights cs) ∙ reads-are skip
+
+-- all inks in an array, and those of them that are kept: they reach no farther than the call.table.now, and theirs are the answers and the reads
+pub record InksKept (call : Call) (at : ℕ) (skip : Float → Bool) (axes : List Axis) (r : ℕ) : Type 0 where
+  pub starts : at + call.m ≤ length call.table.now
+  pub weights : Weighed axes r
+  pub reaches : reach (steps_at axes 0 r) + call.m ≤ length (take (length call.table.now - at) (drop at call.table.now))
+  pub done : (old part : List Float) → call.m ≤ length old → Gives (answer (take (length call.table.now - at) (drop at call.table.now)) (steps_at axes 0 r)) call.m (take call.m old) part
+      → Done skip call old (part ++ drop call.m old)
+  pub counted : 6 * 2 ^ (r - 3) ≡ reads_in skip (last_first (length call.inputs.now) call.sizes.now) call.inputs.now
+
+pub inks-kept : {call : Call} → Ready call → 3 ≤ length call.inputs.now
+    → (at : ℕ) → (some is_nan call.inputs.now ≡ false) × (at ≡ lows (inks_of call))
+    → (axes : List Axis) → (some is_nan call.inputs.now ≡ false → steps_at axes 0 (length call.inputs.now) ≡ stepped (inks_of call))
+    → (skip : Float → Bool) (axes' : List Axis) (r : ℕ) → steps_at axes' 0 r ≡ kept_at skip axes (length call.inputs.now) → InksKept call at skip axes' r
+inks-kept {call = call} ready three at lowest axes steps skip axes' r kept-are =
+    record {
+      starts = part-starts ready (length call.inputs.now) refl at lowest.1;
+      weights = array-weights ready (length call.inputs.now) refl at lowest.1 axes (steps lowest.0) three skip axes' r kept-are;
+      reaches = array-reach ready (length call.inputs.now) refl at lowest.1 axes (steps lowest.0) three skip axes' r kept-are;
+      done = array-done ready (length call.inputs.now) refl at lowest.1 axes (steps lowest.0) three skip axes' r kept-are lowest.0;
+      counted = array-reads ready (length call.inputs.now) refl at lowest.1 axes (steps lowest.0) three skip axes' r kept-are;
+    }

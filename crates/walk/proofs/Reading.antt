@@ -25,7 +25,8 @@ use Rattle.cell.specs.declared.Cell.{Cell}
 use Rattle.cell.proofs.Laws.{ink-on-grid}
 use Rattle.lookup.specs.Places.{placed_ink, first_inks, answer_by, reach, NoNans, answer_in, Settled}
 use Rattle.lookup.proofs.Grid.{inks-reach, inks-done}
-use Rattle.walk.specs.Calls.{Ready, Counts}
+use Rattle.walk.specs.declared.Call.{Call}
+use Rattle.walk.specs.Calls.{ink_of, first_of, inks_of, Ready, Counts}
 
 -- each lower node is no farther than the upper one, and each weight is from 0 up and below 1
 abbrev pub Proper : List Cell → Type 0
@@ -81,36 +82,36 @@ module _ (filling sizes : List ℕ) (xs : List Float) where
       ]
 
 -- the first k inks of a call
-module _ {filling sizes : List ℕ} {m : ℕ} {table xs : List Float} (ready : Ready filling sizes m table xs) (k : ℕ) where
+module _ {call : Call} (ready : Ready call) (k : ℕ) where
   abbrev cs : List Cell
-  cs = first_inks filling sizes xs k
+  cs = first_of call k
 
-  pub cells-proper : k ≤ length xs → Proper cs
-  cells-proper few = inks-proper filling sizes xs k (λ i h. (ready.laid.narrow i (omega arith)).1)
+  pub cells-proper : k ≤ length call.inputs.now → Proper cs
+  cells-proper few = inks-proper call.filling.now call.sizes.now call.inputs.now k (λ i h. (ready.laid.narrow i (omega arith)).1)
 
-  pub cells-reach : k ≤ length xs → reach cs + m ≤ length table
+  pub cells-reach : k ≤ length call.inputs.now → reach cs + call.m ≤ length call.table.now
   cells-reach few =
-      let all = inks-reach filling sizes xs m ready.laid table ready.enough (length xs) refl (first_inks filling sizes xs (length xs)) refl in
-      omega (arith, all, reach-grows filling sizes xs k (length xs) few)
+      let all = inks-reach call.filling.now call.sizes.now call.inputs.now call.m ready.laid call.table.now ready.enough (length call.inputs.now) refl (first_of call (length call.inputs.now)) refl in
+      omega (arith, all, reach-grows call.filling.now call.sizes.now call.inputs.now k (length call.inputs.now) few)
 
-  pub cells-done : (skip : Float → Bool) → length xs ≡ k → some is_nan xs ≡ false → (f : ℕ → Float) → ((o : ℕ) → o < m → f o ≡ answer_by skip table cs o)
-      → (old now : List Float) → now ≡ written f m old
-      → Settled (answer_in skip (last_first (length xs) sizes) m table xs) m xs old 0 now
+  pub cells-done : (skip : Float → Bool) → length call.inputs.now ≡ k → some is_nan call.inputs.now ≡ false → (f : ℕ → Float) → ((o : ℕ) → o < call.m → f o ≡ answer_by skip call.table.now cs o)
+      → (old now : List Float) → now ≡ written f call.m old
+      → Settled (answer_in skip (last_first (length call.inputs.now) call.sizes.now) call.m call.table.now call.inputs.now) call.m call.inputs.now old 0 now
   cells-done skip is none f same old now w =
-      settled-done xs _ m old none now
-      (inks-done filling sizes xs m ready.laid table ready.enough k is skip cs refl old now (w ∙ written_same f (answer_by skip table cs) m old same))
+      settled-done call.inputs.now _ call.m old none now
+      (inks-done call.filling.now call.sizes.now call.inputs.now call.m ready.laid call.table.now ready.enough k is skip cs refl old now (w ∙ written_same f (answer_by skip call.table.now cs) call.m old same))
 
-module _ {filling sizes : List ℕ} {m : ℕ} {table xs : List Float} (ready : Ready filling sizes m table xs) where
-  pub ink-ordered : (k : ℕ) → k < length xs → (c : Cell) → c ≡ placed_ink filling sizes xs k → c.x ≤ c.x_n
-  ink-ordered k less c is = rw is (ordered-ink filling sizes xs k (ready.laid.narrow k less).1)
+module _ {call : Call} (ready : Ready call) where
+  pub ink-ordered : (k : ℕ) → k < length call.inputs.now → (c : Cell) → c ≡ ink_of call k → c.x ≤ c.x_n
+  ink-ordered k less c is = rw is (ordered-ink call.filling.now call.sizes.now call.inputs.now k (ready.laid.narrow k less).1)
 
-  -- the cells of the first inks lie within the table
-  pub one-inside : (c : Cell) → c ≡ placed_ink filling sizes xs 0 → c.x_n + m ≤ length table
+  -- the cells of the first inks lie within the call.table.now
+  pub one-inside : (c : Cell) → c ≡ ink_of call 0 → c.x_n + call.m ≤ length call.table.now
   one-inside c is = rw is (omega (arith, cells-reach ready 1 ready.laid.inks-from))
 
-  pub two-inside : 2 ≤ length xs → (c d : Cell) → c ≡ placed_ink filling sizes xs 0 → d ≡ placed_ink filling sizes xs 1 → d.x_n + c.x_n + m ≤ length table
+  pub two-inside : 2 ≤ length call.inputs.now → (c d : Cell) → c ≡ ink_of call 0 → d ≡ ink_of call 1 → d.x_n + c.x_n + call.m ≤ length call.table.now
   two-inside from c d is also = rw (is, also) (omega (arith, cells-reach ready 2 from))
 
-  pub three-inside : 3 ≤ length xs → (c d e : Cell) → c ≡ placed_ink filling sizes xs 0 → d ≡ placed_ink filling sizes xs 1 → e ≡ placed_ink filling sizes xs 2
-      → (c.x + d.x + e.x ≤ length table) × (c.x_n + d.x_n + e.x_n ≤ length table)
+  pub three-inside : 3 ≤ length call.inputs.now → (c d e : Cell) → c ≡ ink_of call 0 → d ≡ ink_of call 1 → e ≡ ink_of call 2
+      → (c.x + d.x + e.x ≤ length call.table.now) × (c.x_n + d.x_n + e.x_n ≤ length call.table.now)
   three-inside from c d e is also last = rw (is, also, last) (omega (arith, cells-reach ready 3 from), omega (arith, cells-reach ready 3 from))

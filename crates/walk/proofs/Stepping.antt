@@ -3,7 +3,7 @@ use Prim.Native.Nat.{ℕ, zero, suc, ◌+◌, ◌-◌, ◌<◌, ◌≤◌}
 use native.Mathlib.Omega.{arith}
 use native.Mathlib.Nat.{zero-add}
 use native.Mathlib.Numerals.{add-one}
-use mathlib.Core.Path.{◌≡◌, refl, ap, ap₂, sym, subst, fun_ext, ◌∙◌}
+use mathlib.Core.Path.{◌≡◌, refl, ap, ap₂, sym, fun_ext, ◌∙◌}
 use mathlib.Core.Bool.{Bool, true, false, cond}
 use mathlib.Core.List.{List, [], ◌∷◌}
 use lib.Ieee.{Float, nan, is_nan}
@@ -17,10 +17,11 @@ use Rattle.lookup.specs.Places.{sum, reach, answer_by, placed_ink, first_inks, N
 use Rattle.lookup.specs.Idle.{weights_of}
 use Rattle.lookup.proofs.Part.{from-drop}
 use Rattle.walk.proofs.Kept.{steps-kept}
-use Rattle.walk.proofs.Reading.{Proper, cells-reach, no_nans, nans-next, all-numbers}
+use Rattle.walk.proofs.Reading.{Proper, cells-reach, nans-next, all-numbers}
+use Rattle.walk.specs.declared.Call.{Call}
+use Rattle.walk.specs.Calls.{ink_of, first_of, inks_of, Ready}
 use Rattle.walk.specs.declared.Axis.{Axis}
-use Rattle.walk.specs.Calls.{Ready}
-use Rattle.walk.specs.Steps.{axis, cell_of, step_cell, steps_at, stepped, lows, all_inks}
+use Rattle.walk.specs.Steps.{axis, cell_of, step_cell, steps_at, stepped, lows}
 
 node-step : (c : Cell) (b : Bool) → c.x ≤ c.x_n → node c b ≡ c.x + node (step_cell (c.x_n - c.x) c.w) b
 node-step c true h = omega arith
@@ -99,52 +100,44 @@ pub lows-reach : (filling sizes : List ℕ) (xs : List Float) (n : ℕ) → lows
 lows-reach filling sizes xs zero = omega arith
 lows-reach filling sizes xs (suc n) = omega (arith, lows-reach filling sizes xs n)
 
+-- an ink by its step
+abbrev pub axis_of : Cell → Axis
+axis_of c = record { step = c.x_n - c.x; w = c.w }
+
 -- after i inks
-pub record Stepping (filling sizes : List ℕ) (xs : List Float) (axes : List Axis) (at i : ℕ) : Type 0 where
+pub record Stepping (call : Call) (axes : List Axis) (at i : ℕ) : Type 0 where
   pub room : length axes ≡ 16
-  pub numbers : NoNans xs i
-  pub base : at ≡ lows (first_inks filling sizes xs i)
-  pub standing : steps_at axes 0 i ≡ stepped (first_inks filling sizes xs i)
+  pub numbers : NoNans call.inputs.now i
+  pub base : at ≡ lows (first_of call i)
+  pub standing : steps_at axes 0 i ≡ stepped (first_of call i)
 
-module _ {filling sizes : List ℕ} {m : ℕ} {table xs : List Float} (ready : Ready filling sizes m table xs) (axes : List Axis) where
-  pub stepping-none : length axes ≡ 16 → Stepping filling sizes xs axes 0 0
-  stepping-none sixteen = record { room = sixteen; numbers = no_nans xs; base = refl; standing = refl }
-
-  module _ (at i : ℕ) (less : i < length xs) (c : Cell) (is : c ≡ placed_ink filling sizes xs i) (old : Stepping filling sizes xs axes at i) where
-    abbrev pub axis_of : Axis
-    axis_of = record { step = c.x_n - c.x; w = c.w }
-
-    pub stepping-more : is_nan (get_or xs i nan) ≡ false → Stepping filling sizes xs (set axes i axis_of) (at + c.x) (i + 1)
+module _ {call : Call} (ready : Ready call) {axes : List Axis} {at i : ℕ}
+    (old : Stepping call axes at i) where
+  module _ (less : i < length call.inputs.now) (c : Cell) (is : c ≡ ink_of call i) where
+    pub stepping-more : is_nan (get_or call.inputs.now i nan) ≡ false → Stepping call (set axes i (axis_of c)) (at + c.x) (i + 1)
     stepping-more number =
         record {
           room = simp length-set old.room;
-          numbers = nans-next xs i old.numbers number;
+          numbers = nans-next call.inputs.now i old.numbers number;
           base = rw (add-one i) (sum-turned old.base (ap (λ (q : Cell). q.x) is));
-          standing =
-              rw (add-one i) (ap₂ (λ (q : Cell) (cs : List Cell). q ∷ cs) (ap cell_of here ∙ ap (λ (q : Cell). step_cell (q.x_n - q.x) q.w) is) (steps-kept axes i axis_of i (omega arith) ∙ old.standing));
+          standing = rw (add-one i) (ap₂ (λ (q : Cell) (cs : List Cell). q ∷ cs) (ap cell_of here ∙ ap (λ (q : Cell). step_cell (q.x_n - q.x) q.w) is) (steps-kept axes i (axis_of c) i (omega arith) ∙ old.standing));
         }
       where
         sum-turned : {a l y z : ℕ} → a ≡ l → y ≡ z → a + y ≡ z + l
         sum-turned e f = omega arith
 
-        here : axis (set axes i axis_of) (0 + i) ≡ axis_of
-        here =
-            ap (axis (set axes i axis_of)) (zero-add i)
-            ∙ get_or-set_same axes i axis_of (record { step = 0; w = nan }) (omega (arith, old.room, ready.laid.inks-to, less))
+        inside : i < length axes
+        inside = omega (arith, ready.laid.inks-to, less, old.room)
 
-    -- the lowest corner so far stands within the table
-    pub base-within : at + c.x + m ≤ length table
+        here : axis (set axes i (axis_of c)) (0 + i) ≡ axis_of c
+        here = ap (axis (set axes i (axis_of c))) (zero-add i) ∙ get_or-set_same axes i (axis_of c) (record { step = 0; w = nan }) inside
+
+    -- the lowest corner so far stands within the call.table.now
+    pub base-within : at + c.x + call.m ≤ length call.table.now
     base-within =
         let x = ap (λ (q : Cell). q.x) is in
-        omega (arith, x, old.base, lows-reach filling sizes xs (suc i), cells-reach ready (suc i) less)
+        omega (arith, x, old.base, lows-reach call.filling.now call.sizes.now call.inputs.now (suc i), cells-reach ready (suc i) less)
 
   -- after the last one
-  module _ (at i : ℕ) (all : i ≡ length xs) (old : Stepping filling sizes xs axes at i) where
-    pub stepped_numbers : some is_nan xs ≡ false
-    stepped_numbers = all-numbers xs i old.numbers (sym all)
-
-    pub stepped-base : at ≡ lows (all_inks filling sizes xs)
-    stepped-base = old.base ∙ ap (λ (n : ℕ). lows (first_inks filling sizes xs n)) all
-
-    pub stepped-standing : steps_at axes 0 (length xs) ≡ stepped (all_inks filling sizes xs)
-    stepped-standing = subst (λ (n : ℕ). steps_at axes 0 n ≡ stepped (first_inks filling sizes xs n)) all old.standing
+  pub stepped-all : i ≡ length call.inputs.now → (some is_nan call.inputs.now ≡ false) × (at ≡ lows (inks_of call))
+  stepped-all all = (all-numbers call.inputs.now i old.numbers (sym all), old.base ∙ ap (λ (n : ℕ). lows (first_of call n)) all)

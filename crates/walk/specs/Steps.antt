@@ -6,14 +6,9 @@ use Rattle.std.specs.Float.Ieee.{le}
 use Rattle.binary32.specs.Blend.{lerp, terms, rise}
 use Rattle.binary32.specs.Range.{Below}
 use Rattle.cell.specs.declared.Cell.{Cell}
-use Rattle.lookup.specs.Places.{first_inks}
 use Rattle.walk.specs.declared.Axis.{Axis}
 use Rattle.walk.specs.declared.Plan.{Plan}
 use Rattle.walk.specs.Blocks.{at}
-
--- the cells of all inputs, last ink first
-abbrev pub all_inks : List ℕ → List ℕ → List Float → List Cell
-all_inks filling sizes xs = first_inks filling sizes xs (length xs)
 
 -- a cell whose lower node is the part's start
 abbrev pub step_cell : ℕ → Float → Cell

@@ -3,10 +3,9 @@ ghost use Rattle.std.specs.Prelude.{◌≡◌, false, ◌≤◌, ◌<◌, length
 ghost use Rattle.std.specs.Float.{nan};
 ghost use Rattle.std.specs.Float.Ieee.{is_nan};
 ghost use Rattle.lists.specs.Lists.{some};
-ghost use Rattle.lookup.specs.Places.{placed_ink};
-ghost use Rattle.walk.specs.Steps.{all_inks, steps_at, stepped, lows};
+ghost use Rattle.walk.specs.Steps.{steps_at, stepped, lows};
 ghost use Rattle.walk.specs.Kept.{skip_of, kept_at};
-ghost use Rattle.walk.specs.Calls.{Ready, UnlessNan};
+ghost use Rattle.walk.specs.Calls.{Ready, ink_of, inks_of, UnlessNan};
 
 use crate::{Axis, Call};
 use cell::Cell;
@@ -16,20 +15,17 @@ impl Call<'_> {
     // The cell of ink i, counted from 0, with its nodes as distances in entries; a NaN input is refused.
     pub(crate) fn ink(&self, i: usize) -> Result<Cell, Refusal>
         requires { (i < 16) × (i < length self.now.inputs.now) }
-        ensures { UnlessNan (is_nan (get_or self.now.inputs.now i nan))
-            (placed_ink self.now.filling.now self.now.sizes.now self.now.inputs.now i) result }
+        ensures { UnlessNan (is_nan (get_or self.now.inputs.now i nan)) (ink_of self.now i) result }
     {
         cell::placed(i, self.inputs[i], self.sizes[i], self.filling[i]).ok_or(Refusal::NanInput)
     }
 
     // The steps and weights of all inks, and how far the lowest corner stands; a NaN input is refused.
     pub(crate) fn cells(&self, axes: &mut [Axis; 16]) -> Result<usize, Refusal>
-        requires { Ready self.now.filling.now self.now.sizes.now self.now.m self.now.table.now self.now.inputs.now }
-        ensures lowest { UnlessNan (some is_nan self.now.inputs.now)
-            (lows (all_inks self.now.filling.now self.now.sizes.now self.now.inputs.now)) result }
+        requires { Ready self.now }
+        ensures lowest { UnlessNan (some is_nan self.now.inputs.now) (lows (inks_of self.now)) result }
         ensures steps { some is_nan self.now.inputs.now ≡ false
-            → steps_at axes.new 0 (length self.now.inputs.now)
-            ≡ stepped (all_inks self.now.filling.now self.now.sizes.now self.now.inputs.now) }
+            → steps_at axes.new 0 (length self.now.inputs.now) ≡ stepped (inks_of self.now) }
     {
         let mut at: usize = 0;
         for i in 0..self.inputs.len() {

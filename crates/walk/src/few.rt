@@ -1,12 +1,10 @@
 // The answers of one ink to four: in one block of four outputs where the count and the table allow it, else output by output.
 ghost use Rattle.std.specs.Prelude.{◌≡◌, [], ◌∷◌, ℕ, ◌+◌, ◌*◌, ◌≤◌, ◌<◌, length, drop};
 ghost use Rattle.outcome.specs.Refused.{number_in};
-ghost use Rattle.lists.specs.Lists.{last_first};
-ghost use Rattle.lookup.specs.Places.{reach, answer, SettledWith};
+ghost use Rattle.lookup.specs.Places.{reach, answer};
 ghost use Rattle.walk.specs.Blocks.{at, Gives};
 ghost use Rattle.walk.specs.Steps.{tetra_of, fourth, Near};
-ghost use Rattle.walk.specs.Kept.{skip_of, reads_in};
-ghost use Rattle.walk.specs.Calls.{Ready, CubeOf, Counts};
+ghost use Rattle.walk.specs.Calls.{Ready, CubeOf, SettledBy, CountedBy};
 
 use crate::{Call, Plan, cells, count, lanes, tetra};
 use cell::Cell;
@@ -98,13 +96,11 @@ fn four(t: &[f32], p: Plan, h: usize, w: f32, alone: bool, m: usize, out: &mut [
 
 // One ink or two, with the reads: 2 or 4. No answer is written before every input is a cell.
 pub(crate) fn one_or_two(call: &Call, answer: &mut [f32]) -> Result<u32, Refusal>
-    requires ready { Ready call.now.filling.now call.now.sizes.now call.now.m call.now.table.now call.now.inputs.now }
+    requires ready { Ready call.now }
     requires few { length call.now.inputs.now ≤ 2 }
     requires room { call.now.m ≤ length answer.old }
-    ensures settled { SettledWith (skip_of call.now.skipping) call.now.sizes.now call.now.m call.now.table.now call.now.inputs.now answer.old
-        (number_in result) answer.new }
-    ensures counted { Counts
-        (reads_in (skip_of call.now.skipping) (last_first (length call.now.inputs.now) call.now.sizes.now) call.now.inputs.now) result }
+    ensures settled { SettledBy call.now answer.old (number_in result) answer.new }
+    ensures counted { CountedBy call.now result }
 {
     let c = call.ink(0)?;
     if call.inputs.len() == 1 {
@@ -118,9 +114,9 @@ pub(crate) fn one_or_two(call: &Call, answer: &mut [f32]) -> Result<u32, Refusal
 
 // The plan of the first three inks, and where their lowest corner stands.
 fn cube(call: &Call) -> Result<(Plan, usize), Refusal>
-    requires ready { Ready call.now.filling.now call.now.sizes.now call.now.m call.now.table.now call.now.inputs.now }
+    requires ready { Ready call.now }
     requires some { 3 ≤ length call.now.inputs.now }
-    ensures { CubeOf call.now.filling.now call.now.sizes.now call.now.inputs.now result }
+    ensures { CubeOf call.now result }
 {
     let c = call.ink(0)?;
     let d = call.ink(1)?;
@@ -131,13 +127,11 @@ fn cube(call: &Call) -> Result<(Plan, usize), Refusal>
 
 // Three inks or four, with the reads.
 pub(crate) fn three_or_four(call: &Call, answer: &mut [f32]) -> Result<u32, Refusal>
-    requires ready { Ready call.now.filling.now call.now.sizes.now call.now.m call.now.table.now call.now.inputs.now }
+    requires ready { Ready call.now }
     requires few { (3 ≤ length call.now.inputs.now) × (length call.now.inputs.now ≤ 4) }
     requires room { call.now.m ≤ length answer.old }
-    ensures settled { SettledWith (skip_of call.now.skipping) call.now.sizes.now call.now.m call.now.table.now call.now.inputs.now answer.old
-        (number_in result) answer.new }
-    ensures counted { Counts
-        (reads_in (skip_of call.now.skipping) (last_first (length call.now.inputs.now) call.now.sizes.now) call.now.inputs.now) result }
+    ensures settled { SettledBy call.now answer.old (number_in result) answer.new }
+    ensures counted { CountedBy call.now result }
 {
     let (p, at) = cube(call)?;
     let m = call.m;

@@ -15,12 +15,12 @@ ghost use Rattle.std.specs.Prelude.{◌≤◌, length};
 ghost use Rattle.outcome.specs.Refused.{number_in};
 ghost use Rattle.lists.specs.Lists.{last_first};
 ghost use Rattle.layout.specs.Layout.{laid_of};
-ghost use Rattle.lookup.specs.Places.{Promised, SettledWith, Answered};
+ghost use Rattle.lookup.specs.Places.{Promised, Answered};
 ghost use Rattle.lookup.specs.Table.{Looked, LookedBySizes, LookedWith, LookedBySizesWith};
 ghost use Rattle.lookup.specs.Idle.{reads_at, LookedSkipping, LookedSkippingBySizes};
 ghost use Rattle.walk.specs.Count.{count_in};
 ghost use Rattle.walk.specs.Kept.{skip_of, reads_in};
-ghost use Rattle.walk.specs.Calls.{Ready, Counts};
+ghost use Rattle.walk.specs.Calls.{Ready, SettledBy, CountedBy, Counts};
 
 use layout::MultidimensionalLut;
 use outcome::Refusal;
@@ -73,12 +73,10 @@ pub struct Call<'a> {
 
 // The m answers, with the reads; a NaN input is refused.
 fn write(call: &Call, answer: &mut [f32]) -> Result<u32, Refusal>
-    requires ready { Ready call.now.filling.now call.now.sizes.now call.now.m call.now.table.now call.now.inputs.now }
+    requires ready { Ready call.now }
     requires room { call.now.m ≤ length answer.old }
-    ensures settled { SettledWith (skip_of call.now.skipping) call.now.sizes.now call.now.m call.now.table.now call.now.inputs.now answer.old
-        (number_in result) answer.new }
-    ensures counted { Counts
-        (reads_in (skip_of call.now.skipping) (last_first (length call.now.inputs.now) call.now.sizes.now) call.now.inputs.now) result }
+    ensures settled { SettledBy call.now answer.old (number_in result) answer.new }
+    ensures counted { CountedBy call.now result }
 {
     let n = call.inputs.len();
     if n <= 2 {

@@ -1,13 +1,11 @@
 // Five inks and more: all corners of the inks from the fourth on into a work array, then pairs folded, ink 4 first.
 ghost use Rattle.std.specs.Prelude.{◌≡◌, [], ℕ, ◌+◌, ◌-◌, ◌*◌, ◌^◌, ◌≤◌, ◌<◌, length, get_or};
 ghost use Rattle.outcome.specs.Refused.{number_in};
-ghost use Rattle.lists.specs.Lists.{last_first};
-ghost use Rattle.lookup.specs.Places.{answer, reach, SettledWith};
+ghost use Rattle.lookup.specs.Places.{answer, reach};
 ghost use Rattle.walk.specs.Blocks.{Holds, Gives};
 ghost use Rattle.walk.specs.Steps.{steps_at, Weighed};
 ghost use Rattle.walk.specs.Walk.{above, blended, Distant};
-ghost use Rattle.walk.specs.Kept.{skip_of, reads_in};
-ghost use Rattle.walk.specs.Calls.{Ready, Counts};
+ghost use Rattle.walk.specs.Calls.{Ready, SettledBy, CountedBy};
 
 use crate::{Axis, Call, Four, cells, corners, count, fold, lanes};
 use outcome::Refusal;
@@ -88,8 +86,7 @@ fn outer(
     high: &mut [f32],
 ) -> Four
     requires j_bound { (e + 3 + j ≤ 16) × (length tops.now * 4 ≤ length high.old) × (length offs.now * 4 ≤ length work.old) }
-    requires left_in_bounds { (c : ℕ) → c < length tops.now
-        → get_or tops.now c 0 + reach (steps_at axes.now 0 (e + 3)) + left ≤ length t.now }
+    requires left_in_bounds { (c : ℕ) → c < length tops.now → get_or tops.now c 0 + reach (steps_at axes.now 0 (e + 3)) + left ≤ length t.now }
     requires distant { Distant (steps_at axes.now 3 e) e offs.now }
     requires distant_tops { Distant (steps_at axes.now (e + 3) j) j tops.now }
     ensures holds { Holds
@@ -173,13 +170,11 @@ fn blend(t: &[f32], n: usize, axes: &[Axis; 16], m: usize, out: &mut [f32])
 
 // Three inks and more, with the reads.
 pub(crate) fn many(call: &Call, answer: &mut [f32]) -> Result<u32, Refusal>
-    requires ready { Ready call.now.filling.now call.now.sizes.now call.now.m call.now.table.now call.now.inputs.now }
+    requires ready { Ready call.now }
     requires some { 3 ≤ length call.now.inputs.now }
     requires room { call.now.m ≤ length answer.old }
-    ensures settled { SettledWith (skip_of call.now.skipping) call.now.sizes.now call.now.m call.now.table.now call.now.inputs.now answer.old
-        (number_in result) answer.new }
-    ensures counted { Counts
-        (reads_in (skip_of call.now.skipping) (last_first (length call.now.inputs.now) call.now.sizes.now) call.now.inputs.now) result }
+    ensures settled { SettledBy call.now answer.old (number_in result) answer.new }
+    ensures counted { CountedBy call.now result }
 {
     let mut axes = [Axis { step: 0, w: 0.0 }; 16];
     let at = call.cells(&mut axes)?;

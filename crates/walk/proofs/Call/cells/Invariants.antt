@@ -3,4 +3,4 @@ use Rattle.walk.proofs.Stepping.{Stepping}
 use Rattle.walk.proofs.Call.cells.Given as goal
 
 abbrev pub invariant-loop-i : goal.invariant-loop-i
-invariant-loop-i l = Stepping l.self.filling.now l.self.sizes.now l.self.inputs.now l.axes l.at l.i
+invariant-loop-i l = Stepping l.self l.axes l.at l.i

@@ -1,10 +1,7 @@
--- `walk::cells::keep`: with nothing to be skipped all inks are kept, and an ink more is left out or kept.
-use Rattle.std.proofs.Common.{◌≡◌, ◌<◌, arith, false, ap, length, Bool, not, ◌∙◌}
+-- `walk::cells::keep`: where nothing is skipped, and the next ink.
+use Rattle.std.proofs.Common.{◌≡◌, Bool, false, not, ap, arith, ◌∙◌}
 use mir.Val.{bool_byte}
-use Rattle.lookup.specs.Lookup.{idle}
-use Rattle.walk.specs.Steps.{axis}
-use Rattle.walk.specs.Kept.{skip_of, kept_at}
-use Rattle.walk.proofs.Kept.{keeping-more, never-kept, place}
+use Rattle.walk.proofs.Kept.{never-kept, keeping-more, place}
 use Rattle.walk.proofs.cells.keep.Goals as goal
 
 pub returns-then-not-skipping-clause-inks : goal.returns-then-not-skipping-clause-inks
@@ -14,5 +11,4 @@ returns-then-not-skipping-clause-inks c =
 
 pub loop-i-preserved : goal.loop-i-preserved
 loop-i-preserved c =
-    keeping-more idle c.args.axes.now c.loop-i.axes c.loop-i.at c.loop-i.i c.loop-i.invariant (omega arith)
-    c.from-at.result (c.from-at.ensures ∙ ap (λ (b : Bool). bool_byte (not b)) c.skipped.ensures ∙ place (idle (axis c.loop-i.axes c.loop-i.i).w))
+    keeping-more _ _ _ _ _ c.loop-i.invariant (omega arith) _ (c.from-at.ensures ∙ ap (λ (b : Bool). bool_byte (not b)) c.skipped.ensures ∙ place _)
