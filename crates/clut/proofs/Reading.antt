@@ -1,6 +1,7 @@
--- What reading an element owes, case by case: `clut-refused`, by the number; `layout-refused`, `units-read`, by what the layout answered; `short-element`, `layout-number`,
--- `data-number`, where the number comes from.
--- `all-passed`, `data-holds`: what the checks give. `clut-is-layout`: the record is a layout's. `clut-number`: the number in the answer; `clut-length`: the buffer's length stays. Assumes nothing.
+-- What reading an element owes, case by case: `clut-refused`, by the number; `layout-refused`, `units-read`, by what the layout answered;
+-- `short-element`, `layout-number`, `data-number`, where the number comes from.
+-- `all-passed`, `data-holds`: what the checks give. `clut-is-layout`: the record is a layout's. `clut-number`: the number in the answer;
+-- `clut-length`: the buffer's length stays. Assumes nothing.
 use Prim.Native.Nat.{ℕ, zero, suc, ◌-◌, ◌*◌, ◌≤◌, ◌<◌}
 use native.Mathlib.Omega.{arith}
 use mathlib.Core.Path.{◌≡◌, refl, sym, ap, ◌∙◌}
@@ -74,13 +75,15 @@ module _ (element : List ℕ) (n m : ℕ) where
 
 -- ---- what the layout of the element's sizes answered
 
-module _ (element : List ℕ) (n m : ℕ) (old : List Float) (long : 20 ≤ length element) (sizes : List ℕ) (its : sizes ≡ sizes_of element) where
+module _ (element : List ℕ) (n m : ℕ) (old : List Float) (long : 20 ≤ length element)
+    (sizes : List ℕ) (its : sizes ≡ sizes_of element) where
   -- a refusal
   pub layout-refused : (e : Refusal) → LaidBy sizes n m (laid_in (Err e)) → ClutRead element n m old (laid_in (Err e)) old
   unfolding refused_by
   layout-refused e laid =
       let number : number_of e ≡ (layout_of element n m).refusal = λ i. ((laid.answer ∙ ap (λ (s : List ℕ). laid_of s n m) its) i).refusal in
-      clut-refused element n m old (number_of e) (not_done e) (number ∙ layout-number element n m (length old) long (λ z. not_done e (number ∙ z))) _ refl
+      clut-refused element n m old (number_of e) (not_done e)
+      (number ∙ layout-number element n m (length old) long (λ z. not_done e (number ∙ z))) _ refl
 
   -- a record: then what `read_units` answered, k, of as many values as entries
   pub units-read : (lut : MultidimensionalLut) → LaidBy sizes n m (laid_in (Ok lut)) → (count k : ℕ) (now : List Float)

@@ -35,8 +35,8 @@ fn check(precision: usize, bytes: usize, count: usize, room: usize) -> Result<Wi
     Ok(width)
 }
 
-// The first `count` values of the bytes, of `precision` bytes each, as numbers from 0 to 1: checks 14, 15, 8, and sets the first `count` places of `entries`.
-// Refused, nothing is written.
+// The first `count` values of the bytes, of `precision` bytes each, as numbers from 0 to 1: checks 14, 15, 8, and sets the first `count` places
+// of `entries`. Refused, nothing is written.
 pub fn read_units(
     bytes: &[u8],
     precision: usize,
@@ -50,8 +50,8 @@ pub fn read_units(
     Ok(())
 }
 
-// Reads an element for n inks in and m out: checks 13, 1, 2, 3, 5, 14, 15, 8. Answers the layout, and sets the first total places of `entries`.
-// Refused, nothing is written.
+// Reads an element for n inks in and m out: checks 13, 1, 2, 3, 5, 14, 15, 8. Answers the layout, and sets the first total places of
+// `entries`. Refused, nothing is written.
 pub fn read_clut(
     element: &[u8],
     n: usize,

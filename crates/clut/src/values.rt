@@ -18,7 +18,8 @@ pub(crate) enum Width {
 impl TryFrom<usize> for Width {
     type Error = Refusal;
 
-    ghost try_from_gives = { λ precision read. (number_in read ≡ cond (is_precision precision) 0 14) × IfOk read (λ width. bytes_of width ≡ precision) };
+    ghost try_from_gives = { λ precision read.
+        (number_in read ≡ cond (is_precision precision) 0 14) × IfOk read (λ width. bytes_of width ≡ precision) };
 
     #[tactic(auto, unfolding(crate::specs::Units::is_precision))]
     fn try_from(precision: usize) -> Result<Width, Refusal> {

@@ -1,5 +1,6 @@
--- What a cut's checks give: `checked-passed`, `passed-done`; its runs: `can-cut`, `runs_fit`, `runs-slab`; and what a cut gives that was not refused: `cut-passed`,
--- what was asked for; `cut-entry`, the buffer holds the slab; `cut-exact`, one of that length is the slab. `slab-cut-length`: the buffer's length stays. Assumes nothing.
+-- What a cut's checks give: `checked-passed`, `passed-done`; its runs: `can-cut`, `runs_fit`, `runs-slab`; and what a cut gives that was not
+-- refused: `cut-passed`, what was asked for; `cut-entry`, the buffer holds the slab; `cut-exact`, one of that length is the slab.
+-- `slab-cut-length`: the buffer's length stays. Assumes nothing.
 use Prim.Native.Nat.{ℕ, ◌-◌, ◌*◌, ◌/◌, ◌≤◌, ◌<◌}
 use mathlib.Core.Path.{◌≡◌, refl, sym, ap, ◌∙◌, subst}
 use mathlib.Core.Bool.{true, false, not, ◌||◌}

@@ -82,12 +82,15 @@ stands {table} {slab} {runs} {t} fit below =
     }
 
 -- its entry i
-pub run-entry : (table : List Float) (runs : Runs) (t i : ℕ) → i < runs.run → get_or table ((t * runs.lines + runs.k) * runs.run + i) nan ≡ cut_entry table runs (t * runs.run + i)
+pub run-entry : (table : List Float) (runs : Runs) (t i : ℕ) → i < runs.run
+    → get_or table ((t * runs.lines + runs.k) * runs.run + i) nan ≡ cut_entry table runs (t * runs.run + i)
 run-entry table runs t i h = sym (λ x. get_or table ((digits_div t h x * runs.lines + runs.k) * runs.run + digits_mod t h x) nan)
 
 -- which is the next that is written
-pub entry-next : (table : List Float) (runs : Runs) (old : List Float) (t i : ℕ) (now : List Float) → i < runs.run → now ≡ written (cut_entry table runs) (t * runs.run + i) old
-    → set now (t * runs.run + i) (get_or table ((t * runs.lines + runs.k) * runs.run + i) nan) ≡ written (cut_entry table runs) (t * runs.run + (i + 1)) old
+pub entry-next : (table : List Float) (runs : Runs) (old : List Float) (t i : ℕ) (now : List Float) → i < runs.run
+    → now ≡ written (cut_entry table runs) (t * runs.run + i) old
+    → set now (t * runs.run + i) (get_or table ((t * runs.lines + runs.k) * runs.run + i) nan)
+    ≡ written (cut_entry table runs) (t * runs.run + (i + 1)) old
 entry-next table runs old t i now below so_far =
     (λ x. set (so_far x) (t * runs.run + i) (run-entry table runs t i below x))
     ∙ written_next (cut_entry table runs) (t * runs.run + i) old

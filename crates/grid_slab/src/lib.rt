@@ -11,8 +11,8 @@ use layout::MultidimensionalLut;
 use outcome::Refusal;
 use runs::Runs;
 
-// The table that remains when ink j, counted from 1, stands on line k, counted from 0: checks 9, 6, 11, 12, 8. It stands in the first entries of
-// `slab`. Refused, nothing is written.
+// The table that remains when ink j, counted from 1, stands on line k, counted from 0: checks 9, 6, 11, 12, 8. It stands in the first entries
+// of `slab`. Refused, nothing is written.
 pub fn cut_slab(
     lut: MultidimensionalLut,
     table: &[f32],

@@ -1,4 +1,5 @@
--- An array of the values that a closure gave, which keeps what it captured: `from-fn-is`, it is the list of the closure's rule. Assumes nothing.
+-- An array of the values that a closure gave, which keeps what it captured: `from-fn-is`, it is the list of the closure's rule.
+-- Assumes nothing.
 use Rattle.std.proofs.Common.{◌≡◌, ℕ, zero, suc, ◌+◌, ◌<◌, ◌≤◌, List, get_or, sym, ◌∙◌, ap, arith}
 use Rattle.std.specs.Fn.{Mut, Called}
 use Rattle.std.specs.Array.{IsFromFnResult, IsFromFnResultFrom}
@@ -7,7 +8,8 @@ use lib.Seq.{ext_get_or}
 use Rattle.lists.specs.Lists.{tabulate}
 use Rattle.lists.proofs.Lists.{length-tabulate, get_or-tabulate}
 
-module _ {F B : Type 0} (g : Mut F (ℕ × Unit {0}) B) (rule : F → ℕ → B) (calls : (p q : F) (i : ℕ) (y : B) → Called g p (i, tt) y q → (y ≡ rule p i) × (q ≡ p)) (d : B) where
+module _ {F B : Type 0} (g : Mut F (ℕ × Unit {0}) B) (rule : F → ℕ → B)
+    (calls : (p q : F) (i : ℕ) (y : B) → Called g p (i, tt) y q → (y ≡ rule p i) × (q ≡ p)) (d : B) where
   -- the entries from i on
   entries : (f : F) (ys : List B) (i n : ℕ) → IsFromFnResultFrom g f ys i n → (k : ℕ) → i ≤ k → k < i + n → get_or ys k d ≡ rule f k
   entries f ys i zero each k from to = absurd (omega arith)

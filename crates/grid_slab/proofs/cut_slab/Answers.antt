@@ -11,7 +11,8 @@ of-requires c = can-cut _ _ _ _ _ (checked-passed _ _ _ _ _ _ c.in_ok-check.ensu
 pub cut-requires : goal.cut-requires
 cut-requires c =
     let a = c.args in
-    subst (Fit (length a.table.now) (length a.slab.now)) (sym c.of.ensures) (runs_fit _ _ _ _ _ (checked-passed _ _ _ _ _ _ c.in_ok-check.ensures refl))
+    let fit = runs_fit _ _ _ _ _ (checked-passed _ _ _ _ _ _ c.in_ok-check.ensures refl) in
+    subst (Fit (length a.table.now) (length a.slab.now)) (sym c.of.ensures) fit
 
 pub returns : goal.returns
 returns c =

@@ -29,7 +29,9 @@ pub overflow_sub-lines : goal.overflow_sub-lines
 overflow_sub-lines c = omega (arith, is-ink _ _ (sym c.is_ink.ensures ∙ c.if-not-is_ink.false))
 
 pub bounds-sizes-j : goal.bounds-sizes-j
-bounds-sizes-j c = omega (arith, is-ink _ _ (sym c.is_ink.ensures ∙ c.if-not-is_ink.false), inks-to _ (c.is_layout.ensures.holds c.if-not-is_layout.false))
+bounds-sizes-j c =
+    let few = inks-to _ (c.is_layout.ensures.holds c.if-not-is_layout.false) in
+    omega (arith, is-ink _ _ (sym c.is_ink.ensures ∙ c.if-not-is_ink.false), few)
 
 pub returns-then-lines-k : goal.returns-then-lines-k
 unfolding refusal
@@ -38,7 +40,8 @@ returns-then-lines-k c =
     record { laid = c.is_layout.result; decides = c.is_layout.ensures; number = grind (arith, nat_tests) }
 
 -- the slab's total
-share : (lut : MultidimensionalLut) (j t : ℕ) → IsLayout lut → is_ink j lut.input_inks ≡ true → (lut.input_inks ≡ 1 → ⊥) → t ≡ entries lut → t / size_of lut j ≡ entries (fewer lut j)
+share : (lut : MultidimensionalLut) (j t : ℕ) → IsLayout lut → is_ink j lut.input_inks ≡ true → (lut.input_inks ≡ 1 → ⊥)
+    → t ≡ entries lut → t / size_of lut j ≡ entries (fewer lut j)
 share lut j t is ink more total =
     let of = is-ink j lut.input_inks ink in
     ap (λ (t : ℕ). t / size_of lut j) total ∙ fewer-share lut is (omega arith) j of.0 of.1 (size-from lut is (j - 1) (omega arith))
