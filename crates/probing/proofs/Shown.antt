@@ -1,6 +1,7 @@
 -- What the probe prints, from what its parts say: the layout's answer, and the lookup's number and answers.
 -- Assumes nothing.
-use Rattle.std.proofs.Common.{◌≡◌, refl, sym, ◌∙◌, ap, ℕ, zero, suc, ◌≤◌, ◌<◌, false, List, [], ◌∷◌, map, length, get_or, take, drop, replicate, Float, arith, length-take-le}
+use Rattle.std.proofs.Common.{◌≡◌, refl, sym, ◌∙◌, ap, ℕ, zero, suc, ◌≤◌, ◌<◌, false, Float, arith}
+use Rattle.std.proofs.Common.{List, [], ◌∷◌, map, length, get_or, take, drop, replicate, length-take-le}
 use Rattle.std.specs.Float.{nan}
 use Rattle.std.specs.Float.Ieee.{is_nan}
 use lib.Dec.{T, ltb, ltb→lt, lit≤, lit<}
@@ -26,7 +27,8 @@ unfolding some
 codes-numbers [] t = refl
 codes-numbers (v ∷ vs) t =
     let byte : v < 256 = ltb→lt v 256 (and_l (ltb v 256) (are_bytes vs) t) in
-    rw (share-number (code_of v) (unit-share 255 v (lit< tt) (lit≤ tt) (omega arith))) (codes-numbers vs (and_r (ltb v 256) (are_bytes vs) t))
+    rw (share-number (code_of v) (unit-share 255 v (lit< tt) (lit≤ tt) (omega arith)))
+    (codes-numbers vs (and_r (ltb v 256) (are_bytes vs) t))
 
 -- a refusal is reported alone
 refusal-alone : (k : ℕ) (xs : List Float) → (k ≡ 0 → ⊥) → report k xs ≡ report k []
@@ -68,7 +70,9 @@ module _ (input : List ℕ) {bytes : List ℕ} {laid : Laid} (bytes-are : bytes 
       ∙ output
 
   module _ (accepted : laid.refusal ≡ 0) {rest codes table : List ℕ} {old now : List Float} {r : ℕ}
-      (rest-is : rest ≡ drop 3 bytes) (codes-are : codes ≡ take laid.lut.input_inks rest) (table_is : table ≡ drop laid.lut.input_inks rest) (room : length old ≡ 15) (looked : Looked laid.lut (map code_of table) (map code_of codes) old r now) where
+      (rest-is : rest ≡ drop 3 bytes) (codes-are : codes ≡ take laid.lut.input_inks rest)
+      (table_is : table ≡ drop laid.lut.input_inks rest) (room : length old ≡ 15)
+      (looked : Looked laid.lut (map code_of table) (map code_of codes) old r now) where
     answers : ℕ → Float
     answers = answer_at laid.lut (map code_of table) (map code_of codes)
 
@@ -79,7 +83,8 @@ module _ (input : List ℕ) {bytes : List ℕ} {laid : Laid} (bytes-are : bytes 
     unfolding shown of_bytes answers m
     reported =
         let n = (asked.inks accepted).0 in
-        let number = looked.number ∙ (λ i. refusal (looked.decides.found (asked.layout accepted) i) laid.lut (length (map code_of table)) (map code_of codes) (room i)) in
+        let laid-so = looked.decides.found (asked.layout accepted) in
+        let number = looked.number ∙ (λ i. refusal (laid-so i) laid.lut (length (map code_of table)) (map code_of codes) (room i)) in
         (λ i. report (or_else (sym accepted i) (number i)) (tabulate m answers))
         ∙ (λ i. shown laid (map code_of (codes-are i)) (map code_of (table_is i)))
         ∙ (λ i. shown (asked.answer i) (map code_of (take (n i) (rest-is i))) (map code_of (drop (n i) (rest-is i))))
@@ -92,4 +97,5 @@ module _ (input : List ℕ) {bytes : List ℕ} {laid : Laid} (bytes-are : bytes 
     unfolding answers m
     lookup-answers h =
         let set : now ≡ written answers m old = looked.entries ∙ ap (λ (k : ℕ). left k answers m old) h in
-        (λ i. report (sym h i) ((ap (take m) set ∙ sym (first-written answers m old (omega (arith, asked.outputs accepted)))) i)) ∙ reported
+        let first = ap (take m) set ∙ sym (first-written answers m old (omega (arith, asked.outputs accepted))) in
+        (λ i. report (sym h i) (first i)) ∙ reported

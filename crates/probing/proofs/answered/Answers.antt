@@ -16,8 +16,12 @@ pub returns-in_err-looked-clause-err : goal.returns-in_err-looked-clause-err
 returns-in_err-looked-clause-err c =
     let p = err_from_is_err_and c.from_residual-in_err-looked.result c.from_residual-in_err-looked.ensures.1 in
     rw (p.1, p.2)
-    (lookup-refuses _ c.split.ensures.before c.in_ok-lut.ensures refl c.split-2.ensures.after c.split-3.ensures.before c.split-3.ensures.after (omega arith) c.in_err-looked.ensures (not_done _))
+    (lookup-refuses _ c.split.ensures.before c.in_ok-lut.ensures refl c.split-2.ensures.after c.split-3.ensures.before
+    c.split-3.ensures.after (omega arith) c.in_err-looked.ensures (not_done _))
 
 pub returns-clause-ok : goal.returns-clause-ok
-returns-clause-ok c =
-    (c.in_ok-lut.ensures.outputs refl, lookup-answers _ c.split.ensures.before c.in_ok-lut.ensures refl c.split-2.ensures.after c.split-3.ensures.before c.split-3.ensures.after (omega arith) c.in_ok-looked.ensures refl)
+returns-clause-ok c = (
+  c.in_ok-lut.ensures.outputs refl,
+  lookup-answers _ c.split.ensures.before c.in_ok-lut.ensures refl c.split-2.ensures.after c.split-3.ensures.before
+      c.split-3.ensures.after (omega arith) c.in_ok-looked.ensures refl,
+)

@@ -1,5 +1,6 @@
 -- `Report::push_spaced`: one answer more is one blank and its digits more.
-use Rattle.std.proofs.Common.{ℕ, ◌<◌, List, [], ◌∷◌, ◌++◌, ap, sym, ◌∙◌, length, get_or, add-one, append-nil, append_assoc, length-append, arith}
+use Rattle.std.proofs.Common.{ℕ, ◌<◌, ap, sym, ◌∙◌, add-one, arith}
+use Rattle.std.proofs.Common.{List, [], ◌∷◌, ◌++◌, length, get_or, append-nil, append_assoc, length-append}
 use Rattle.std.specs.Float.{nan}
 use Rattle.probing.specs.Text.{blank, bits_of, after_blanks}
 use Rattle.probing.proofs.Blanks.{blanks-next}
