@@ -57,7 +57,7 @@ impl Width {
     }
 
     // The first `count` values as entries. Four are read before the first of them is written, so that the compiler divides them together.
-    // Stays: written one at a time, they take 1.5 times as long.
+    // Stays: (b) written one at a time, they take 1.5 times as long.
     pub(crate) fn read(self, bytes: &[u8], entries: &mut [f32], count: usize)
         requires held { bytes_of self * count ≤ length bytes.now }
         requires room { count ≤ length entries.old }

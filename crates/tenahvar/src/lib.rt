@@ -30,14 +30,7 @@ pub extern "C" fn tenahvar_layout(
 ) -> u32
     ensures { LaidOut sizes.now n m grid_strides.old grid_filling_size.old grid_scale.old result grid_strides.new grid_filling_size.new grid_scale.new }
 {
-    outcome::number(answers::lay_out(
-        sizes,
-        n,
-        m,
-        grid_strides,
-        grid_filling_size,
-        grid_scale,
-    ))
+    outcome::number(answers::lay_out(sizes, n, m, grid_strides, grid_filling_size, grid_scale))
 }
 
 // The layout's number; on 0 `total` is the entries that a table needs.
@@ -169,7 +162,11 @@ pub extern "C" fn tenahvar_pyramidal(
 ) -> u32
     ensures { BlendedAt pyramid x.now x_n.now w.now g m cube.now answer.old result answer.new }
 {
-    let cube = Cube { g, m, entries: cube };
+    let cube = Cube {
+        g,
+        m,
+        entries: cube,
+    };
     outcome::number(cubes::interpolate(Method::Pyramidal, cells(x, x_n, w), cube, answer))
 }
 
@@ -186,7 +183,11 @@ pub extern "C" fn tenahvar_prismatic(
 ) -> u32
     ensures { BlendedAt prism x.now x_n.now w.now g m cube.now answer.old result answer.new }
 {
-    let cube = Cube { g, m, entries: cube };
+    let cube = Cube {
+        g,
+        m,
+        entries: cube,
+    };
     outcome::number(cubes::interpolate(Method::Prismatic, cells(x, x_n, w), cube, answer))
 }
 
@@ -203,6 +204,10 @@ pub extern "C" fn tenahvar_trilinear(
 ) -> u32
     ensures { BlendedAt trilinear x.now x_n.now w.now g m cube.now answer.old result answer.new }
 {
-    let cube = Cube { g, m, entries: cube };
+    let cube = Cube {
+        g,
+        m,
+        entries: cube,
+    };
     outcome::number(cubes::interpolate(Method::Trilinear, cells(x, x_n, w), cube, answer))
 }

@@ -59,7 +59,7 @@ pub struct Plan {
 
 // A call: each ink's filling size and size, first ink first, the outputs of a node, the table and the inputs. And whether an ink
 // from the fourth on whose weight is 0 is skipped.
-// Stays: `skipping` is a bool and no closure over weights, since with one each function down to `keep` would be generic, ask that
+// Stays: (d) `skipping` is a bool and no closure over weights, since with one each function down to `keep` would be generic, ask that
 // it may be called, and be compiled twice.
 #[derive(Clone, Copy)]
 pub struct Call<'a> {
