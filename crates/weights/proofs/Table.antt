@@ -25,14 +25,14 @@ entry index = get_or ENTRIES_33 index (0, 0, 0)
 unfoldable pub holds : ℕ × ℕ × ℕ → Cell → Bool
 holds e c = eqb e.0 c.x && (eqb e.1 c.x_n && (eqb e.2 (to_bits binary32 c.w) && not (nan_bits binary32 e.2)))
 
-all : every (λ k. holds (entry k) (weight_cell 33 k)) (tabulate 256 (λ k. k)) ≡ true
+pub constants-right : every (λ k. holds (entry k) (weight_cell 33 k)) (tabulate 256 (λ k. k)) ≡ true
 unfolding every tabulate holds weight_cell cell_of scale_of mul sub add sum neg round units odd size span climb of_int of_bits of_fields to_bits nan_bits
-all = refl
+constants-right = refl
 
-at_each : (index : ℕ) → index < 256 → holds (entry index) (weight_cell 33 index) ≡ true
+pub at_each : (index : ℕ) → index < 256 → holds (entry index) (weight_cell 33 index) ≡ true
 at_each index l =
     let test : ℕ → Bool = λ k. holds (entry k) (weight_cell 33 k) in
-    let here = every-at test (tabulate 256 (λ k. k)) index all (rw (length-tabulate 256 (λ k. k)) l) in
+    let here = every-at test (tabulate 256 (λ k. k)) index constants-right (rw (length-tabulate 256 (λ k. k)) l) in
     subst (λ (k : ℕ). test k ≡ true) (get_or-tabulate 256 (λ k. k) index 0 l) here
 
 fits-w : (index : ℕ) → T (fits binary32 (weight_cell 33 index).w)
