@@ -7,23 +7,22 @@ use mathlib.Core.Bool.{Bool, false, cond}
 use mathlib.Core.List.{List, [], ◌∷◌, ◌++◌}
 use lib.Ieee.{Float, nan, is_nan}
 use lib.ListN.{length, get_or, take, drop, length-append}
-use Rattle.lists.specs.Lists.{last_first}
 use Rattle.cell.specs.declared.Cell.{Cell}
-use Rattle.lookup.specs.Places.{reach, placed_ink, first_inks, answer_by, NoNans}
+use Rattle.lookup.specs.Places.{reach, answer_by, NoNans}
 use Rattle.lookup.specs.Idle.{reads, weights_of, active}
 use Rattle.lookup.proofs.Counts.{length-weights, reads_three}
 use Rattle.walk.specs.declared.Plan.{Plan}
 use Rattle.walk.specs.Blocks.{Gives}
 use Rattle.walk.specs.Steps.{step_cell, stepped, lows, fourth, tetra_of, Near}
 use Rattle.walk.specs.Walk.{above}
-use Rattle.walk.specs.Kept.{kept, reads_in}
+use Rattle.walk.specs.Kept.{kept}
 use Rattle.walk.specs.declared.Call.{Call}
-use Rattle.walk.specs.Calls.{ink_of, first_of, inks_of, Ready, Cubed, plan_of}
+use Rattle.walk.specs.Calls.{skip_by, reads_by, SettledBy, ink_of, first_of, Ready, Cubed, plan_of}
 use Rattle.walk.proofs.Above.{above-answer, reach-over}
 use Rattle.walk.proofs.Tetrahedron.{near, plan-answers}
 use Rattle.walk.proofs.Reading.{Proper, cells-proper, cells-done, all-numbers, nans-next}
 use Rattle.walk.proofs.Kept.{at-start-stepped, kept-answer, fourth-on, fourth-above}
-use Rattle.walk.proofs.Grids.{Done, part-starts, part-reach, part-answers, prefix-written, reads-are}
+use Rattle.walk.proofs.Grids.{part-starts, part-reach, part-answers, prefix-written, reads-are}
 
 stepped-over : (hs ts : List Cell) → stepped (hs ++ ts) ≡ stepped hs ++ stepped ts
 stepped-over [] ts = refl
@@ -62,34 +61,32 @@ module _ {call : Call} (ready : Ready call) (from : 3 ≤ length call.inputs.now
           let over = ap reach parts-are ∙ reach-over (stepped hs) (stepped three) in
           omega (arith, far, over, part-reach ready n is at base)
 
-      -- with the weights that are skipped
-      module _ (skip : Float → Bool) where
-        abbrev pub cube_answers : ℕ → Float
-        cube_answers o = above (tetra_of p o) (kept skip (stepped hs)) part
+      abbrev pub cube_answers : ℕ → Float
+      cube_answers o = above (tetra_of p o) (kept (skip_by call) (stepped hs)) part
 
-        same : (o : ℕ) → o < call.m → cube_answers o ≡ answer_by skip call.table.now (first_of call n) o
-        same o h =
-            above-answer (step_cell (c.x_n - c.x) c.w) (step_cell (d.x_n - d.x) d.w) (step_cell (e.x_n - e.x) e.w) o (tetra_of p o)
-            (λ t. ap (λ (q : Plan). tetra_of q o t) plan
-            ∙ plan-answers (c.x_n - c.x) (d.x_n - d.x) (e.x_n - e.x) c.w d.w e.w cube.1.1.0.1 cube.1.0.1 cube.0.1 t o)
-            (kept skip (stepped hs)) part
-            ∙ kept-answer skip (stepped three) refl o (stepped hs) (at-start-stepped hs) part
-            ∙ ap (λ (l : List Cell). answer_by skip part l o) (sym parts-are)
-            ∙ part-answers ready n is at base skip o
+      same : (o : ℕ) → o < call.m → cube_answers o ≡ answer_by (skip_by call) call.table.now (first_of call n) o
+      same o h =
+          above-answer (step_cell (c.x_n - c.x) c.w) (step_cell (d.x_n - d.x) d.w) (step_cell (e.x_n - e.x) e.w) o (tetra_of p o)
+          (λ t. ap (λ (q : Plan). tetra_of q o t) plan
+          ∙ plan-answers (c.x_n - c.x) (d.x_n - d.x) (e.x_n - e.x) c.w d.w e.w cube.1.1.0.1 cube.1.0.1 cube.0.1 t o)
+          (kept (skip_by call) (stepped hs)) part
+          ∙ kept-answer (skip_by call) (stepped three) refl o (stepped hs) (at-start-stepped hs) part
+          ∙ ap (λ (l : List Cell). answer_by (skip_by call) part l o) (sym parts-are)
+          ∙ part-answers ready n is at base o
 
-        pub cube-done : NoNans call.inputs.now n → (f : ℕ → Float) → ((o : ℕ) → f o ≡ cube_answers o) → (old given : List Float) → call.m ≤ length old
-            → Gives f call.m (take call.m old) given → Done skip call old (given ++ drop call.m old)
-        cube-done each f are old given room gives =
-            cells-done ready n skip is (all-numbers call.inputs.now n each is) f (λ o h. are o ∙ same o h) old _ (prefix-written f call.m old given room gives)
+      pub cube-done : NoNans call.inputs.now n → (f : ℕ → Float) → ((o : ℕ) → f o ≡ cube_answers o) → (old given : List Float) → call.m ≤ length old
+          → Gives f call.m (take call.m old) given → SettledBy call old 0 (given ++ drop call.m old)
+      cube-done each f are old given room gives =
+          cells-done ready n is (all-numbers call.inputs.now n each is) f (λ o h. are o ∙ same o h) old _ (prefix-written f call.m old given room gives)
 
-        pub cube-reads : 6 * 2 ^ active skip (weights_of hs) ≡ reads_in skip (last_first (length call.inputs.now) call.sizes.now) call.inputs.now
-        cube-reads =
-            let ws = weights_of (hs ++ three) in
-            let some = length-weights (hs ++ three) ∙ length-append hs three in
-            ap (λ (l : List Float). 6 * 2 ^ active skip l) (sym (fourth-on hs three refl))
-            ∙ sym (reads_three skip ws (omega (arith, some)))
-            ∙ ap (λ (l : List Cell). reads skip (weights_of l)) all
-            ∙ reads-are ready n is skip
+      pub cube-reads : 6 * 2 ^ active (skip_by call) (weights_of hs) ≡ reads_by call
+      cube-reads =
+          let ws = weights_of (hs ++ three) in
+          let some = length-weights (hs ++ three) ∙ length-append hs three in
+          ap (λ (l : List Float). 6 * 2 ^ active (skip_by call) l) (sym (fourth-on hs three refl))
+          ∙ sym (reads_three (skip_by call) ws (omega (arith, some)))
+          ∙ ap (λ (l : List Cell). reads (skip_by call) (weights_of l)) all
+          ∙ reads-are ready n is
 
 -- ---- three inks alone, and four
 
@@ -104,12 +101,12 @@ module _ {call : Call} (ready : Ready call) {p : Plan} {at : ℕ} (cubed : Cubed
     pub three-near : Near p × (p.far + call.m ≤ length (take (length call.table.now - at) (drop at call.table.now)))
     three-near = (cube-near ready some3 p cubed.plan, omega (arith, cube-reach ready some3 p cubed.plan [] 3 is refl at cubed.base))
 
-    pub three-done : (skip : Float → Bool) (old given : List Float) → call.m ≤ length old → Gives (λ o. tetra_of p o (take (length call.table.now - at) (drop at call.table.now))) call.m (take call.m old) given
-        → Done skip call old (given ++ drop call.m old)
-    three-done skip = cube-done ready some3 p cubed.plan [] 3 is refl at cubed.base skip cubed.numbers _ (λ o. refl)
+    pub three-done : (old given : List Float) → call.m ≤ length old → Gives (λ o. tetra_of p o (take (length call.table.now - at) (drop at call.table.now))) call.m (take call.m old) given
+        → SettledBy call old 0 (given ++ drop call.m old)
+    three-done = cube-done ready some3 p cubed.plan [] 3 is refl at cubed.base cubed.numbers _ (λ o. refl)
 
-    pub three-reads : (skip : Float → Bool) → 6 ≡ reads_in skip (last_first (length call.inputs.now) call.sizes.now) call.inputs.now
-    three-reads skip = cube-reads ready some3 p cubed.plan [] 3 is refl at cubed.base skip
+    pub three-reads : 6 ≡ reads_by call
+    three-reads = cube-reads ready some3 p cubed.plan [] 3 is refl at cubed.base
 
   module _ (is : length call.inputs.now ≡ 4) (h : Cell) (number : is_nan (get_or call.inputs.now 3 nan) ≡ false) (ink : h ≡ ink_of call 3) where
     some4 : 3 ≤ length call.inputs.now
@@ -130,15 +127,15 @@ module _ {call : Call} (ready : Ready call) {p : Plan} {at : ℕ} (cubed : Cubed
     pub four-near : Near p × (p.far + (h.x_n - h.x) + call.m ≤ length upper-part)
     four-near = (cube-near ready some4 p cubed.plan, omega (arith, cube-reach ready some4 p cubed.plan (h ∷ []) 4 is all (at + h.x) base))
 
-    pub four-done : (skip : Float → Bool) (alone : Bool) → alone ≡ skip h.w → (old given : List Float) → call.m ≤ length old
+    pub four-done : (alone : Bool) → alone ≡ (skip_by call) h.w → (old given : List Float) → call.m ≤ length old
         → Gives (λ o. fourth alone (tetra_of p o upper-part) (tetra_of p o (drop (h.x_n - h.x) upper-part)) h.w) call.m (take call.m old) given
-        → Done skip call old (given ++ drop call.m old)
-    four-done skip alone skipped =
-        cube-done ready some4 p cubed.plan (h ∷ []) 4 is all (at + h.x) base skip (nans-next call.inputs.now 3 cubed.numbers number) _
+        → SettledBy call old 0 (given ++ drop call.m old)
+    four-done alone skipped =
+        cube-done ready some4 p cubed.plan (h ∷ []) 4 is all (at + h.x) base (nans-next call.inputs.now 3 cubed.numbers number) _
         (λ o. ap (λ (b : Bool). fourth b (tetra_of p o upper-part) (tetra_of p o (drop (h.x_n - h.x) upper-part)) h.w) skipped
-        ∙ fourth-above (skip h.w) (h.x_n - h.x) h.w (tetra_of p o) upper-part)
+        ∙ fourth-above ((skip_by call) h.w) (h.x_n - h.x) h.w (tetra_of p o) upper-part)
 
-    pub four-reads : (skip : Float → Bool) (places : ℕ) → places ≡ cond (skip h.w) 0 1 → 6 * 2 ^ (3 + places - 3) ≡ reads_in skip (last_first (length call.inputs.now) call.sizes.now) call.inputs.now
-    four-reads skip places taken =
+    pub four-reads : (places : ℕ) → places ≡ cond ((skip_by call) h.w) 0 1 → 6 * 2 ^ (3 + places - 3) ≡ reads_by call
+    four-reads places taken =
         let back : 3 + places - 3 ≡ places = omega arith in
-        ap (λ (k : ℕ). 6 * 2 ^ k) (back ∙ taken) ∙ cube-reads ready some4 p cubed.plan (h ∷ []) 4 is all (at + h.x) base skip
+        ap (λ (k : ℕ). 6 * 2 ^ k) (back ∙ taken) ∙ cube-reads ready some4 p cubed.plan (h ∷ []) 4 is all (at + h.x) base

@@ -1,5 +1,5 @@
 -- The inputs read one by one: their cells as long as each is a number, and that one is none. Assumes nothing.
-use Prim.Native.Nat.{ℕ, zero, suc, ◌+◌, ◌*◌, ◌<◌, ◌≤◌}
+use Prim.Native.Nat.{ℕ, zero, suc, ◌+◌, ◌<◌, ◌≤◌}
 use native.Mathlib.Omega.{arith}
 use native.Mathlib.Nat.{mul-le-mul_right}
 use native.Mathlib.Decide.{dec_le}
@@ -9,24 +9,23 @@ use mathlib.Core.List.{List, [], ◌∷◌}
 use lib.Ieee.{Float, nan, is_nan}
 use lib.ListN.{length, get_or}
 use borrow.Author.Count.{below_more}
-use Rattle.std.specs.Prelude.{Result, Err}
+use Rattle.std.specs.Prelude.{Err}
 use Rattle.outcome.specs.declared.Refusal.{Refusal}
 use Rattle.outcome.specs.declared.Refusal.TheVariants.{NanInput}
-use Rattle.outcome.specs.Outcome.{on_done}
 use Rattle.outcome.specs.Refused.{number_of}
 use Rattle.outcome.proofs.Numbers.{not_done}
 use Rattle.outcome.proofs.Refused.{kept}
 use Rattle.binary32.specs.Range.{Below}
-use Rattle.lists.specs.Lists.{some, last_first}
+use Rattle.lists.specs.Lists.{some}
 use Rattle.lists.specs.Buffer.{written}
 use Rattle.lists.proofs.Lists.{some_at, some-none}
 use Rattle.lists.proofs.Buffer.{written_same}
 use Rattle.cell.specs.declared.Cell.{Cell}
 use Rattle.cell.proofs.Laws.{ink-on-grid}
-use Rattle.lookup.specs.Places.{placed_ink, first_inks, answer_by, reach, NoNans, answer_in, Settled}
+use Rattle.lookup.specs.Places.{placed_ink, first_inks, answer_by, reach, NoNans, Settled}
 use Rattle.lookup.proofs.Grid.{inks-reach, inks-done}
 use Rattle.walk.specs.declared.Call.{Call}
-use Rattle.walk.specs.Calls.{ink_of, first_of, inks_of, Ready, Counts}
+use Rattle.walk.specs.Calls.{skip_by, SettledBy, ink_of, first_of, Ready, Counts}
 
 -- each lower node is no farther than the upper one, and each weight is from 0 up and below 1
 abbrev pub Proper : List Cell → Type 0
@@ -94,12 +93,12 @@ module _ {call : Call} (ready : Ready call) (k : ℕ) where
       let all = inks-reach call.filling.now call.sizes.now call.inputs.now call.m ready.laid call.table.now ready.enough (length call.inputs.now) refl (first_of call (length call.inputs.now)) refl in
       omega (arith, all, reach-grows call.filling.now call.sizes.now call.inputs.now k (length call.inputs.now) few)
 
-  pub cells-done : (skip : Float → Bool) → length call.inputs.now ≡ k → some is_nan call.inputs.now ≡ false → (f : ℕ → Float) → ((o : ℕ) → o < call.m → f o ≡ answer_by skip call.table.now cs o)
+  pub cells-done : length call.inputs.now ≡ k → some is_nan call.inputs.now ≡ false → (f : ℕ → Float) → ((o : ℕ) → o < call.m → f o ≡ answer_by (skip_by call) call.table.now cs o)
       → (old now : List Float) → now ≡ written f call.m old
-      → Settled (answer_in skip (last_first (length call.inputs.now) call.sizes.now) call.m call.table.now call.inputs.now) call.m call.inputs.now old 0 now
-  cells-done skip is none f same old now w =
+      → SettledBy call old 0 now
+  cells-done is none f same old now w =
       settled-done call.inputs.now _ call.m old none now
-      (inks-done call.filling.now call.sizes.now call.inputs.now call.m ready.laid call.table.now ready.enough k is skip cs refl old now (w ∙ written_same f (answer_by skip call.table.now cs) call.m old same))
+      (inks-done call.filling.now call.sizes.now call.inputs.now call.m ready.laid call.table.now ready.enough k is (skip_by call) cs refl old now (w ∙ written_same f (answer_by (skip_by call) call.table.now cs) call.m old same))
 
 module _ {call : Call} (ready : Ready call) where
   pub ink-ordered : (k : ℕ) → k < length call.inputs.now → (c : Cell) → c ≡ ink_of call k → c.x ≤ c.x_n

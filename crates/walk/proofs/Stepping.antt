@@ -13,7 +13,7 @@ use Rattle.binary32.specs.Blend.{along, square, tetra, lerp}
 use Rattle.lists.specs.Lists.{some}
 use Rattle.cell.specs.declared.Cell.{Cell}
 use Rattle.lookup.specs.Lookup.{Grid, node, lookup_with}
-use Rattle.lookup.specs.Places.{sum, reach, answer_by, placed_ink, first_inks, NoNans}
+use Rattle.lookup.specs.Places.{sum, reach, answer_by, first_inks, NoNans}
 use Rattle.lookup.specs.Idle.{weights_of}
 use Rattle.lookup.proofs.Part.{from-drop}
 use Rattle.walk.proofs.Kept.{steps-kept}

@@ -29,17 +29,20 @@ first_of call n = first_inks call.filling.now call.sizes.now call.inputs.now n
 abbrev pub inks_of : Call → List Cell
 inks_of call = first_of call (length call.inputs.now)
 
+-- the weights that are skipped, and the reads
+abbrev pub skip_by : Call → Float → Bool
+skip_by call = skip_of call.skipping
+
+abbrev pub reads_by : Call → ℕ
+reads_by call = reads_in (skip_by call) (last_first (length call.inputs.now) call.sizes.now) call.inputs.now
+
 -- what is owed: the number r, and the answer buffer afterwards, `now`, which was `old`
 abbrev pub SettledBy : Call → List Float → ℕ → List Float → Type 0
-SettledBy call old r now = SettledWith (skip_of call.skipping) call.sizes.now call.m call.table.now call.inputs.now old r now
+SettledBy call old r now = SettledWith (skip_by call) call.sizes.now call.m call.table.now call.inputs.now old r now
 
 -- so many nodes are read unless the call is refused
 abbrev pub Counts : ℕ → Result ℕ Refusal → Type 0
 Counts count r = count_in r ≡ on_done (number_in r) count 0
-
--- the reads of a call
-abbrev pub reads_by : Call → ℕ
-reads_by call = reads_in (skip_of call.skipping) (last_first (length call.inputs.now) call.sizes.now) call.inputs.now
 
 abbrev pub CountedBy : Call → Result ℕ Refusal → Type 0
 CountedBy call r = Counts (reads_by call) r

@@ -86,7 +86,8 @@ fn outer(
     high: &mut [f32],
 ) -> Four
     requires j_bound { (e + 3 + j ≤ 16) × (length tops.now * 4 ≤ length high.old) × (length offs.now * 4 ≤ length work.old) }
-    requires left_in_bounds { (c : ℕ) → c < length tops.now → get_or tops.now c 0 + reach (steps_at axes.now 0 (e + 3)) + left ≤ length t.now }
+    requires left_in_bounds { (c : ℕ) → c < length tops.now
+        → get_or tops.now c 0 + reach (steps_at axes.now 0 (e + 3)) + left ≤ length t.now }
     requires distant { Distant (steps_at axes.now 3 e) e offs.now }
     requires distant_tops { Distant (steps_at axes.now (e + 3) j) j tops.now }
     ensures holds { Holds

@@ -1,5 +1,5 @@
 -- `walk::few::cube`: a NaN is refused, and the cells lie within the table.
-use Rattle.std.proofs.Common.{◌≡◌, ◌<◌, ◌≤◌, arith, length}
+use Rattle.std.proofs.Common.{◌<◌, arith, length}
 use Rattle.std.proofs.lemmas.Result.{err_from_is_err_and}
 use Rattle.walk.proofs.Reading.{nan-at, ink-ordered, three-inside}
 use Rattle.walk.proofs.few.cube.Goals as goal

@@ -1,8 +1,7 @@
 -- `walk::few::one_or_two`: a NaN is refused; the cells lie within the table; and neither ink is skipped.
-use Rattle.std.proofs.Common.{◌≡◌, ◌<◌, ◌≤◌, arith, length, ap, ap₂, List, [], ◌∷◌}
+use Rattle.std.proofs.Common.{◌≡◌, ◌<◌, arith, length, ap, ap₂, [], ◌∷◌}
 use Rattle.std.proofs.lemmas.Result.{err_from_is_err_and}
 use Rattle.cell.specs.declared.Cell.{Cell}
-use Rattle.walk.specs.Kept.{skip_of}
 use Rattle.walk.proofs.Reading.{no_nans, nans-next, nan-at, settled-nan, ink-ordered, one-inside, two-inside}
 use Rattle.walk.proofs.Grids.{inks-given}
 use Rattle.walk.proofs.Counting.{one-read, two-reads, one_answer, two_answers}
@@ -24,11 +23,10 @@ pub returns-then-call-eq1-clause-settled : goal.returns-then-call-eq1-clause-set
 returns-then-call-eq1-clause-settled c =
     let call = c.args.call.now in
     inks-given c.requires.ready 1 c.if-call-eq1.true (nans-next _ 0 (no_nans _) c.in_ok-c.ensures.0)
-    _ (ap (λ (q : Cell). q ∷ []) c.in_ok-c.ensures.1) c.args.answer.now _ c.requires.room c.one.ensures
-    (skip_of call.skipping) (one_answer (skip_of call.skipping) call.sizes.now call.inputs.now call.filling.now call.table.now)
+    _ (ap (λ (q : Cell). q ∷ []) c.in_ok-c.ensures.1) c.args.answer.now _ c.requires.room c.one.ensures (one_answer c.args.call.now)
 
 pub returns-then-call-eq1-clause-counted : goal.returns-then-call-eq1-clause-counted
-returns-then-call-eq1-clause-counted c = one-read (skip_of c.args.call.now.skipping) _ _ c.if-call-eq1.true
+returns-then-call-eq1-clause-counted c = one-read c.args.call.now c.if-call-eq1.true
 
 pub returns-in_err-d-clause-settled : goal.returns-in_err-d-clause-settled
 returns-in_err-d-clause-settled c =
@@ -53,11 +51,10 @@ returns-clause-settled c =
     let from = c.requires.ready.laid.inks-from in
     let both : length call.inputs.now ≡ 2 = omega arith in
     inks-given c.requires.ready 2 both (nans-next _ 1 (nans-next _ 0 (no_nans _) c.in_ok-c.ensures.0) c.in_ok-d.ensures.0)
-    _ (ap₂ (λ (p q : Cell). q ∷ p ∷ []) c.in_ok-c.ensures.1 c.in_ok-d.ensures.1) c.args.answer.now _ c.requires.room c.two.ensures
-    (skip_of call.skipping) (two_answers (skip_of call.skipping) call.sizes.now call.inputs.now call.filling.now call.table.now)
+    _ (ap₂ (λ (p q : Cell). q ∷ p ∷ []) c.in_ok-c.ensures.1 c.in_ok-d.ensures.1) c.args.answer.now _ c.requires.room c.two.ensures (two_answers c.args.call.now)
 
 pub returns-clause-counted : goal.returns-clause-counted
 returns-clause-counted c =
     let from = c.requires.ready.laid.inks-from in
     let both : length c.args.call.now.inputs.now ≡ 2 = omega arith in
-    two-reads (skip_of c.args.call.now.skipping) _ _ both
+    two-reads c.args.call.now both

@@ -1,8 +1,7 @@
 -- `walk::few::three_or_four`: the inks lie within the table, and the answers and the reads are those of the plan, and of ink 4 above it.
-use Rattle.std.proofs.Common.{◌≡◌, ◌<◌, ◌≤◌, ◌+◌, arith, length, ap, not, Bool, ◌∙◌}
+use Rattle.std.proofs.Common.{◌≡◌, ◌<◌, arith, length, ap, not, Bool, ◌∙◌}
 use Rattle.std.proofs.lemmas.Result.{err_from_is_err_and}
 use mir.Val.{bool_byte}
-use Rattle.walk.specs.Kept.{skip_of}
 use Rattle.walk.proofs.Reading.{nan-at, settled-nan, ink-ordered}
 use Rattle.walk.proofs.Kept.{place}
 use Rattle.walk.proofs.Cubes.{three-starts, three-near, three-done, three-reads, four-starts, four-near, four-done, four-reads}
@@ -24,10 +23,10 @@ three-requires-clause-near c = three-near c.requires.ready c.in_ok-p.ensures c.i
 
 pub returns-then-call-eq3-clause-settled : goal.returns-then-call-eq3-clause-settled
 returns-then-call-eq3-clause-settled c =
-    three-done c.requires.ready c.in_ok-p.ensures c.if-call-eq3.true (skip_of c.args.call.now.skipping) _ _ c.requires.room c.three.ensures
+    three-done c.requires.ready c.in_ok-p.ensures c.if-call-eq3.true _ _ c.requires.room c.three.ensures
 
 pub returns-then-call-eq3-clause-counted : goal.returns-then-call-eq3-clause-counted
-returns-then-call-eq3-clause-counted c = three-reads c.requires.ready c.in_ok-p.ensures c.if-call-eq3.true (skip_of c.args.call.now.skipping)
+returns-then-call-eq3-clause-counted c = three-reads c.requires.ready c.in_ok-p.ensures c.if-call-eq3.true
 
 -- ---- four
 
@@ -77,12 +76,12 @@ pub returns-clause-settled : goal.returns-clause-settled
 returns-clause-settled c =
     let h = c.in_ok-h.ensures in
     let is : length c.args.call.now.inputs.now ≡ 4 = omega arith in
-    four-done c.requires.ready c.in_ok-p.ensures is _ h.0 h.1 (skip_of c.args.call.now.skipping) _ c.skipped-alone.ensures _ _ c.requires.room c.four.ensures
+    four-done c.requires.ready c.in_ok-p.ensures is _ h.0 h.1 _ c.skipped-alone.ensures _ _ c.requires.room c.four.ensures
 
 pub returns-clause-counted : goal.returns-clause-counted
 returns-clause-counted c =
     let h = c.in_ok-h.ensures in
     let is : length c.args.call.now.inputs.now ≡ 4 = omega arith in
     c.reads_of.ensures
-    ∙ four-reads c.requires.ready c.in_ok-p.ensures is _ h.0 h.1 (skip_of c.args.call.now.skipping) c.from.result
+    ∙ four-reads c.requires.ready c.in_ok-p.ensures is _ h.0 h.1 c.from.result
     (c.from.ensures ∙ ap (λ (b : Bool). bool_byte (not b)) c.skipped-alone.ensures ∙ place _)
