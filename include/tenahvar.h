@@ -27,7 +27,7 @@ extern "C" {
 #define TENAHVAR_VERSION_MINOR 2
 #define TENAHVAR_VERSION_PATCH 0
 
-/* No call takes more bytes of stack. By the frames of the x86-64 archive it is at most 4,040 bytes, for a lookup, whatever the counts: no function calls
+/* No call takes more bytes of stack. By the frames of the x86-64 archive it is at most 4,136 bytes, for a lookup, whatever the counts: no function calls
  * itself. memcpy's and memset's own are not among them. */
 #define TENAHVAR_STACK 8192
 

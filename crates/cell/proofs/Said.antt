@@ -1,7 +1,7 @@
 -- What an answer says that is none where a test holds, and else a value. `differs-is`: NaN, and nothing else, is not equal to itself.
 -- Assumes nothing.
 use Rattle.std.proofs.Common.{◌≡◌, ◌*◌, Bool, true, false, cond, not, ◌&&◌, refl, ap, eq-eqb}
-use Rattle.std.specs.Prelude.{Option, None, Some}
+use Rattle.std.specs.Prelude.{None, Some}
 use lib.Ieee.{Float, nan, inf, fin, up, down, eq, ne, is_nan}
 
 pub differs-is : (x : Float) → ne x x ≡ is_nan x

@@ -6,6 +6,7 @@ use layout::MultidimensionalLut;
 use outcome::Refusal;
 
 // A record that is no layout's is refused, then the lengths.
+// Stays: (d) a lookup by a record begins likewise; a function of both would save it three lines, and its refusals' order could not be read.
 pub(crate) fn lengths(lut: MultidimensionalLut, table: usize, given: usize) -> Result<(), Refusal>
     ensures { Checked lut table given (number_in result) }
 {

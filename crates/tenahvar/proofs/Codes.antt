@@ -8,7 +8,7 @@ use Rattle.outcome.specs.declared.Refusal.{Refusal}
 use Rattle.outcome.specs.Refused.{number_of}
 use Rattle.outcome.proofs.Numbers.{not_done}
 use Rattle.lists.specs.Buffer.{written, left}
-use Rattle.lists.proofs.Buffer.{written_next, unwritten}
+use Rattle.lists.proofs.Buffer.{written_next}
 use Rattle.cell.specs.declared.Cell.{Cell}
 use Rattle.weights.specs.Rule.{RangedCell, ranged, ranged_cell, ranged_cell_in, weight_cell}
 use Rattle.tenahvar.specs.Weights.{RangedInto}

@@ -4,23 +4,20 @@ use Prim.Native.Nat.{ℕ, ◌*◌}
 use mathlib.Core.Path.{◌≡◌, refl, sym, ap, ◌∙◌}
 use mathlib.Core.Bool.{Bool, true}
 use mathlib.Core.List.{List, reverse}
-use lib.Ieee.{Float, nan}
-use lib.ListN.{length, get_or}
+use lib.Ieee.{Float}
+use lib.ListN.{length}
 use Rattle.std.specs.Prelude.{Result, Ok, Err}
 use Rattle.outcome.specs.declared.Refusal.{Refusal}
 use Rattle.outcome.specs.Refused.{number_of, number_in}
 use Rattle.outcome.specs.Outcome.{or_else, on_done}
 use Rattle.outcome.proofs.Refused.{kept, given}
-use Rattle.lists.specs.Buffer.{left}
 use Rattle.layout.specs.declared.MultidimensionalLut.{MultidimensionalLut}
 use Rattle.layout.specs.Order.{index}
-use Rattle.layout.specs.Layout.{Laid, laid_of, laid_in, refused_by, IsLayout, LaidBy, ink_sizes, entries}
+use Rattle.layout.specs.Layout.{Laid, laid_of, laid_in, refused_by, IsLayout, LaidBy, ink_sizes}
 use Rattle.layout.proofs.BySizes.{laid-outputs}
 use Rattle.nodes.specs.Node.{node_refusal, NodeRefused, NodePlaced}
-use Rattle.grid_slab.specs.Slab.{fewer, slab, refusal, SlabCut}
 use Rattle.outcome.proofs.Numbers.{not_done}
 use Rattle.flash.specs.BySizes.{Told}
-use Rattle.tenahvar.specs.Slab.{slab_number, SlabTaken}
 use Rattle.tenahvar.specs.Node.{node_number, NodeFound}
 
 -- the number of a record that is none

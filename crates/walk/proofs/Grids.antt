@@ -58,9 +58,6 @@ light-steps (c ∷ cs) proper = (proper.0.1, light-steps cs proper.1)
 pub prefix-length : (m : ℕ) (old part : List Float) → m ≤ length old → length part ≡ m → length (part ++ drop m old) ≡ length old
 prefix-length m old part room count = length-append part (drop m old) ∙ (let e = length-drop m old in omega (arith, count, e))
 
-pub prefix-count : (m : ℕ) (old : List Float) → m ≤ length old → length (take m old) ≡ m
-prefix-count m old room = length-take-le m old room
-
 pub prefix-written : (f : ℕ → Float) (m : ℕ) (old part : List Float) → m ≤ length old → Gives f m (take m old) part → part ++ drop m old ≡ written f m old
 prefix-written f m old part room gives =
     written_is f m old (part ++ drop m old) nan room (prefix-length m old part room count)

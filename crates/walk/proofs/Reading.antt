@@ -9,12 +9,9 @@ use mathlib.Core.List.{List, [], ◌∷◌}
 use lib.Ieee.{Float, nan, is_nan}
 use lib.ListN.{length, get_or}
 use borrow.Author.Count.{below_more}
-use Rattle.std.specs.Prelude.{Err}
 use Rattle.outcome.specs.declared.Refusal.{Refusal}
 use Rattle.outcome.specs.declared.Refusal.TheVariants.{NanInput}
 use Rattle.outcome.specs.Refused.{number_of}
-use Rattle.outcome.proofs.Numbers.{not_done}
-use Rattle.outcome.proofs.Refused.{kept}
 use Rattle.binary32.specs.Range.{Below}
 use Rattle.lists.specs.Lists.{some}
 use Rattle.lists.specs.Buffer.{written}
@@ -25,7 +22,7 @@ use Rattle.cell.proofs.Laws.{ink-on-grid}
 use Rattle.lookup.specs.Places.{placed_ink, first_inks, answer_by, reach, NoNans, Settled}
 use Rattle.lookup.proofs.Grid.{inks-reach, inks-done}
 use Rattle.walk.specs.declared.Call.{Call}
-use Rattle.walk.specs.Calls.{skip_by, SettledBy, ink_of, first_of, Ready, Counts}
+use Rattle.walk.specs.Calls.{skip_by, SettledBy, ink_of, first_of, Ready}
 
 -- each lower node is no farther than the upper one, and each weight is from 0 up and below 1
 abbrev pub Proper : List Cell → Type 0
@@ -55,10 +52,6 @@ module _ (xs : List Float) (f : ℕ → Float) (m : ℕ) (old : List Float) wher
 
   settled-done : some is_nan xs ≡ false → (now : List Float) → now ≡ written f m old → Settled f m xs old 0 now
   settled-done none now w = record { number = sym (ap (λ (b : Bool). cond b 16 0) none); entries = w }
-
--- a refused call counts no reads
-pub refused-counts : (count : ℕ) (e : Refusal) → Counts count (Err e)
-refused-counts count e = kept (number_of e) count 0 (not_done e) refl
 
 -- ---- what all cells are
 

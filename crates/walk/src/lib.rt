@@ -20,7 +20,7 @@ ghost use Rattle.lookup.specs.Table.{Looked, LookedBySizes, LookedWith, LookedBy
 ghost use Rattle.lookup.specs.Idle.{reads_at, LookedSkipping, LookedSkippingBySizes};
 ghost use Rattle.walk.specs.Count.{count_in};
 ghost use Rattle.walk.specs.Kept.{skip_of, reads_in};
-ghost use Rattle.walk.specs.Calls.{Ready, SettledBy, CountedBy, Counts};
+ghost use Rattle.walk.specs.Calls.{skip_by, Ready, SettledBy, CountedBy, Counts};
 
 use layout::MultidimensionalLut;
 use outcome::Refusal;
@@ -57,10 +57,9 @@ pub struct Plan {
     pub rz: f32,
 }
 
-// A call: each ink's filling size and size, first ink first, the outputs of a node, the table and the inputs. And whether an ink
-// from the fourth on whose weight is 0 is skipped.
-// Stays: (d) `skipping` is a bool and no closure over weights, since with one each function down to `keep` would be generic, ask that
-// it may be called, and be compiled twice.
+// A call: each ink's filling size and size, first ink first, the outputs of a node, the table, the inputs, and whether an ink from
+// the fourth on whose weight is 0 is skipped.
+// Stays: `skipping` is a bool; with a closure over weights each function down to `keep` would be generic, and compiled twice.
 #[derive(Clone, Copy)]
 pub struct Call<'a> {
     pub filling: &'a [u32; 16],
@@ -91,9 +90,9 @@ fn write(call: &Call, answer: &mut [f32]) -> Result<u32, Refusal>
 // After an accepted layout of n inks: a short table is refused, another number of inputs, a short answer buffer, a NaN input.
 fn answered(call: &Call, n: usize, answer: &mut [f32]) -> Result<u32, Refusal>
     requires { Promised call.now.filling.now call.now.sizes.now n call.now.m }
-    ensures answered { Answered (skip_of call.now.skipping) (last_first n call.now.sizes.now) n call.now.m call.now.table.now call.now.inputs.now
+    ensures answered { Answered (skip_by call.now) (last_first n call.now.sizes.now) n call.now.m call.now.table.now call.now.inputs.now
         answer.old (number_in result) answer.new }
-    ensures counted { Counts (reads_in (skip_of call.now.skipping) (last_first n call.now.sizes.now) call.now.inputs.now) result }
+    ensures counted { Counts (reads_in (skip_by call.now) (last_first n call.now.sizes.now) call.now.inputs.now) result }
 {
     let total = (call.filling[0] as u64) * (call.sizes[0] as u64);
     layout::check_lengths(total, n, call.table.len(), call.inputs.len())?;

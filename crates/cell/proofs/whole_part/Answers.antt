@@ -1,5 +1,5 @@
 -- The digits of p without those behind the point are its whole part, and where all stand behind it none is left.
-use Rattle.std.proofs.Common.{◌≡◌, ℕ, ◌+◌, ◌-◌, ◌/◌, ◌%◌, ◌^◌, ◌<◌, not, T, sym, ap, ◌∙◌, arith}
+use Rattle.std.proofs.Common.{◌≡◌, ℕ, ◌+◌, ◌-◌, ◌/◌, ◌%◌, ◌^◌, not, T, sym, ap, ◌∙◌, arith}
 use lib.Ieee.{Float, nan, inf, fin, binary32, is_nan, to_bits}
 use Rattle.binary32.specs.Range.{Below}
 use Rattle.cell.specs.Rule.{whole_of}

@@ -1,8 +1,8 @@
 -- The total is that of the layout's record.
-use Rattle.std.proofs.Common.{refl, sym, ap, ◌∙◌}
+use Rattle.std.proofs.Common.{refl, ap, ◌∙◌}
 use Rattle.std.proofs.lemmas.Result.{err_from_is_err_and}
 use Rattle.outcome.proofs.Numbers.{not_done}
-use Rattle.outcome.proofs.Refused.{kept, given, refused-first}
+use Rattle.outcome.proofs.Refused.{kept, given}
 use Rattle.layout.specs.Layout.{Laid, entries}
 use Rattle.tenahvar.proofs.Laid.{refused-number, accepted-number}
 use Rattle.layout.proofs.Laws.{first-filling}

@@ -1,10 +1,8 @@
 -- A refused layout cuts nothing.
-use Rattle.std.proofs.Common.{sym, ap, ◌∙◌}
 use Rattle.std.proofs.lemmas.Result.{err_from_is_err_and}
 use Rattle.outcome.proofs.Numbers.{not_done}
-use Rattle.outcome.proofs.Refused.{kept, given, refused-first}
-use Rattle.layout.specs.Layout.{Laid, entries}
-use Rattle.tenahvar.proofs.Laid.{refused-number, accepted-number}
+use Rattle.outcome.proofs.Refused.{refused-first}
+use Rattle.tenahvar.proofs.Laid.{refused-number}
 use Rattle.lists.proofs.Buffer.{unwritten}
 use Rattle.tenahvar.proofs.answers.cut.Goals as goal
 

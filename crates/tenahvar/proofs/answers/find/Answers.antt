@@ -1,11 +1,10 @@
 -- A refused layout's number, the node reader's refusal, or the place that it gives.
-use Rattle.std.proofs.Common.{refl, sym, ap, ◌∙◌}
+use Rattle.std.proofs.Common.{refl}
 use Rattle.std.proofs.lemmas.Result.{err_from_is_err_and}
 use Rattle.outcome.proofs.Numbers.{not_done}
-use Rattle.outcome.proofs.Refused.{kept, given, refused-first}
-use Rattle.layout.specs.Layout.{Laid, entries}
-use Rattle.tenahvar.proofs.Laid.{refused-number, accepted-number}
-use Rattle.tenahvar.proofs.Laid.{node-refused, node-found}
+use Rattle.outcome.proofs.Refused.{kept, refused-first}
+use Rattle.tenahvar.proofs.Laid.{refused-number}
+use Rattle.tenahvar.proofs.Laid.{node-found}
 use Rattle.tenahvar.proofs.answers.find.Goals as goal
 
 pub returns-in_err-grid : goal.returns-in_err-grid

@@ -1,9 +1,9 @@
 -- The number and the rows are those of the layout.
-use Rattle.std.proofs.Common.{sym, ap, ◌∙◌}
+use Rattle.std.proofs.Common.{ap, ◌∙◌}
 use Rattle.std.proofs.lemmas.Result.{err_from_is_err_and}
 use Rattle.outcome.proofs.Numbers.{not_done}
-use Rattle.outcome.proofs.Refused.{kept, given, refused-first}
-use Rattle.layout.specs.Layout.{Laid, entries}
+use Rattle.outcome.proofs.Refused.{kept, given}
+use Rattle.layout.specs.Layout.{Laid}
 use Rattle.tenahvar.proofs.Laid.{refused-number, accepted-number}
 use Rattle.tenahvar.proofs.answers.lay_out.Goals as goal
 

@@ -1,5 +1,5 @@
 -- The first places of each array hold the cells of the codes that were passed, and no size 0 passed one.
-use Rattle.std.proofs.Common.{◌≡◌, ℕ, ◌<◌}
+use Rattle.std.proofs.Common.{◌≡◌, ◌<◌}
 use Rattle.lists.specs.Buffer.{written}
 use Rattle.weights.specs.Rule.{weight_cell}
 use Rattle.tenahvar.proofs.answers.range.Given as goal

@@ -1,6 +1,4 @@
 -- A refusal tells nothing.
-use Rattle.std.proofs.Common.{Err, refl}
-use Rattle.std.proofs.lemmas.Result.{err_from_is_err_and}
 use Rattle.tenahvar.proofs.Laid.{untold}
 use Rattle.tenahvar.proofs.files.tell.Goals as goal
 
