@@ -35,6 +35,7 @@ fn check(precision: usize, bytes: usize, count: usize, room: usize) -> Result<Wi
     Ok(width)
 }
 
+// Stays: (a) a precision is a number here, since refusal 14, of the clause `UnitsRead`, is for one that is no width.
 // The first `count` values of the bytes, of `precision` bytes each, as numbers from 0 to 1: checks 14, 15, 8, and sets the first `count` places
 // of `entries`. Refused, nothing is written.
 pub fn read_units(

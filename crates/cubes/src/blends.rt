@@ -16,6 +16,7 @@ fn both_above(a: f32, b: f32, c: f32) -> bool
 }
 
 // c0, then the term of blue, of red and of green.
+// Stays: (d) binary32 has such a sum within, by numbers; here the inks' names say in which order.
 fn terms(c0: f32, rise: Inks<f32>, weights: Inks<f32>) -> f32
     ensures { result ≡ Blend.terms c0 rise.blue rise.red rise.green weights.blue weights.red weights.green }
 {

@@ -124,6 +124,7 @@ pub extern "C" fn tenahvar_read_clut(
 }
 
 // Values of one byte or of two as numbers from 0 to 1: refusals 14, 15, 8. On 0 the first `count` places of `entries` are set.
+// Stays: (a) C gives the precision as a number.
 #[unsafe(no_mangle)]
 pub extern "C" fn tenahvar_read_units(
     bytes: &[u8],
@@ -137,6 +138,7 @@ pub extern "C" fn tenahvar_read_units(
 }
 
 // The cells of all 256 codes on an axis of g lines: lower nodes, upper nodes and weights. Refused, nothing is written.
+// Stays: (a) C has nodes and weights in arrays of their own.
 #[unsafe(no_mangle)]
 pub extern "C" fn tenahvar_create_ranged_256(
     g: u8,
@@ -150,6 +152,7 @@ pub extern "C" fn tenahvar_create_ranged_256(
 }
 
 // The pyramid method: refusals 2, 3, 6, 8, 10.
+// Stays: (a) C has three functions, with nodes and weights in arrays of their own.
 #[unsafe(no_mangle)]
 pub extern "C" fn tenahvar_pyramidal(
     x: &[usize; 3],
@@ -171,6 +174,7 @@ pub extern "C" fn tenahvar_pyramidal(
 }
 
 // The prism method: refusals 2, 3, 6, 8, 10.
+// Stays: (a) C has three functions, with nodes and weights in arrays of their own.
 #[unsafe(no_mangle)]
 pub extern "C" fn tenahvar_prismatic(
     x: &[usize; 3],
@@ -192,6 +196,7 @@ pub extern "C" fn tenahvar_prismatic(
 }
 
 // The trilinear method: refusals 2, 3, 6, 8, 10.
+// Stays: (a) C has three functions, with nodes and weights in arrays of their own.
 #[unsafe(no_mangle)]
 pub extern "C" fn tenahvar_trilinear(
     x: &[usize; 3],
