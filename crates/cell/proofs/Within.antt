@@ -68,6 +68,9 @@ pub castable : (p : Float) (k : ℕ) → Below 255 p → k ≡ whole_of p → T 
 unfolding in_float
 castable p k h e = le→leb k (2 ^ prec binary32) (small k (omega (arith, whole-lt 64 255 p (lit≤ tt) h)))
 
+pub whole-below : (p : Float) (k : ℕ) → Below 255 p → k ≡ whole_of p → k < 255
+whole-below p k h e = omega (arith, whole-lt 64 255 p (lit≤ tt) h)
+
 -- ---- p rounded up is its whole part or one more
 pub whole-le-up : (p : Float) → whole_of p ≤ up_of p
 unfolding up_of

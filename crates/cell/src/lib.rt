@@ -5,6 +5,7 @@ ghost use Rattle.std.specs.Prelude.{◌≡◌, ◌-◌, ◌<◌, if◌then◌els
 ghost use Rattle.std.specs.Float.{binary32};
 ghost use Rattle.std.specs.Float.Ieee.{mul};
 ghost use Rattle.binary32.specs.Range.{UpTo, Below};
+ghost use Rattle.cell.specs.Props.{below-prop};
 ghost use Rattle.cell.specs.Rule.{clip_of, scale_of, whole_of, up_of, next_of, cell_at, ink_cell, found_of, scale};
 
 // One axis of a cell: the lower node, the upper node, and the weight of the upper one.
@@ -31,6 +32,7 @@ pub fn clip(x: f32) -> Option<f32>
     Some(0.0)
 }
 
+// Stays: (a) document 02, E3, asks for the whole part from the digits, and `as` takes no float.
 // The whole part of a product, from its exponent and its fraction: of the 24 digits, the leading one
 // and the fraction, those behind the point are shifted out; below 1 that is all of them.
 // (The difference wraps for no product. Written so, the test is no branch that a processor could guess wrong.)
@@ -46,17 +48,6 @@ fn whole_part(p: f32) -> usize
     ((b % 0x80_0000 + 0x80_0000) >> behind) as usize
 }
 
-// A product rounded up to a whole number, from its whole part.
-fn round_up(p: f32, lower: usize) -> usize
-    requires { Below 255 p × (lower ≡ whole_of p) }
-    ensures { result ≡ up_of p }
-{
-    if (lower as f32) < p {
-        return lower + 1;
-    }
-    lower
-}
-
 // g - 1, the last grid line. (No grid has size 0; one that had would count as size 1.)
 fn last_line(g: u8) -> u8
     ensures { result ≡ g - 1 }
@@ -64,44 +55,65 @@ fn last_line(g: u8) -> u8
     g.saturating_sub(1)
 }
 
-// The product that decides the cell: the ink times g - 1, rounded. It is below 255.
-fn product(ink: f32, g: u8) -> f32
-    requires { UpTo 1 ink }
-    ensures value { result ≡ mul binary32 ink (scale_of g) }
-    ensures ranged { Below 255 result }
-{
-    ink * (last_line(g) as f32)
+// The product that decides a cell, below 255, and its whole part, the lower node.
+#[derive(Clone, Copy)]
+struct Product {
+    p: f32,
+    lower: usize,
+    ghost below: { Below 255 p } by { below-prop 255 p },
+    ghost whole: { lower ≡ whole_of p },
 }
 
-// The cell of a product whose nodes are known.
-fn cell_at(p: f32, lower: usize, upper: usize) -> Cell
-    requires { Below 255 p × (lower ≡ whole_of p) }
-    ensures { result ≡ cell_at p upper }
-{
-    Cell {
-        x: lower,
-        x_n: upper,
-        w: p - (lower as f32),
+impl Product {
+    // The ink times g - 1, rounded.
+    fn new(ink: f32, g: u8) -> Product
+        requires { UpTo 1 ink }
+        ensures { result.p ≡ mul binary32 ink (scale_of g) }
+    {
+        let p = ink * (last_line(g) as f32);
+        Product {
+            p,
+            lower: whole_part(p),
+        }
     }
-}
 
-// The upper node of an ink from 5 up: the one after the lower node, but never past the last line.
-fn next_node(lower: usize, g: u8) -> usize
-    requires { lower < 255 }
-    ensures { result ≡ next_of lower g }
-{
-    (lower + 1).min(last_line(g) as usize)
-}
-
-// The upper node of ink i, counted from 0: inks 1 to 4 take the product rounded up, inks 5 and up the next node.
-fn upper_node(i: usize, p: f32, lower: usize, g: u8) -> usize
-    requires { Below 255 p × (lower ≡ whole_of p) }
-    ensures { result ≡ (if nat_lt i 4 then up_of p else next_of (whole_of p) g) }
-{
-    if i < 4 {
-        return round_up(p, lower);
+    // It rounded up to a whole number.
+    fn up(self) -> usize
+        ensures { result ≡ up_of self.p }
+    {
+        if (self.lower as f32) < self.p {
+            return self.lower + 1;
+        }
+        self.lower
     }
-    next_node(lower, g)
+
+    // The node after the lower one, but never past the last line.
+    fn next_node(self, g: u8) -> usize
+        ensures { result ≡ next_of (whole_of self.p) g }
+    {
+        (self.lower + 1).min(last_line(g) as usize)
+    }
+
+    // The upper node of ink i, counted from 0: inks 1 to 4 take the product rounded up, inks 5 and up the next node.
+    fn upper_node(self, i: usize, g: u8) -> usize
+        ensures { result ≡ (if nat_lt i 4 then up_of self.p else next_of (whole_of self.p) g) }
+    {
+        if i < 4 {
+            return self.up();
+        }
+        self.next_node(g)
+    }
+
+    // The cell with an upper node.
+    fn cell(self, upper: usize) -> Cell
+        ensures { result ≡ cell_at self.p upper }
+    {
+        Cell {
+            x: self.lower,
+            x_n: upper,
+            w: self.p - (self.lower as f32),
+        }
+    }
 }
 
 // The cell of ink i, counted from 0, in a grid of g lines; none of a NaN.
@@ -109,9 +121,8 @@ pub fn ink_cell(i: usize, x: f32, g: u8) -> Option<Cell>
     ensures { result ≡ found_of x (ink_cell i g x) }
 {
     let ink = clip(x)?;
-    let p = product(ink, g);
-    let lower = whole_part(p);
-    Some(cell_at(p, lower, upper_node(i, p, lower, g)))
+    let product = Product::new(ink, g);
+    Some(product.cell(product.upper_node(i, g)))
 }
 
 // The same with the nodes as distances in table entries, where `filling` entries stand from one node of the ink to the next.

@@ -8,7 +8,8 @@ ghost use Rattle.flash.specs.Refusals.{zeros, block_refusal, head_used, body_use
 use crate::words;
 use outcome::Refusal;
 
-// Whether `count` bytes from a place on are all 0. Without an early exit the compiler takes many at once.
+// Whether `count` bytes from a place on are all 0.
+// Stays: (b) by a fold: with `all`, which exits early, the compiler does not take many at once.
 fn all_zero(file: &[u8], from: usize, count: usize) -> bool
     requires { from + count ≤ length file.now }
     ensures { result ≡ zeros file.now from count }

@@ -5,7 +5,7 @@ ghost use Rattle.probing.specs.Text.{decimal_of, bits_of, spaced, head_of, repor
 use std::marker::Model;
 
 // The first `len` of the bytes. The longest report is that of fifteen answers.
-// Stays: (a) a buffer and a length, as the library uses no heap; only `push` and `as_slice` see them.
+// Stays: (a) a buffer and a length, as the library uses no heap and std alone; only `push` and `as_slice` see them.
 #[derive(Drop)]
 pub(crate) struct Report {
     bytes: [u8; 141],
@@ -40,6 +40,7 @@ impl Report {
     }
 
     // A number below 100: its tens are left out where there are none.
+    // Stays: (d) `write!` promises nothing of what it writes, and never that it is Ok.
     fn push_number(&mut self, n: u32)
         requires { length self.old + 2 ≤ 141 }
         ensures { self.new ≡ self.old ++ decimal_of n }

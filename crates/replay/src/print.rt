@@ -22,18 +22,22 @@ impl<W: Write> Lines<W> {
         self.digits(value)
     }
 
-    pub(crate) fn words(&mut self, part: &[u32]) -> io::Result<()> {
+    // Each of the values as a word.
+    fn each<T: Copy, F: Fn(T) -> u32>(&mut self, part: &[T], word: F) -> io::Result<()>
+        requires { F.IsAlwaysCallable word }
+    {
         for value in part {
-            self.word(*value)?;
+            self.word(word(*value))?;
         }
         Ok(())
     }
 
+    pub(crate) fn words(&mut self, part: &[u32]) -> io::Result<()> {
+        self.each(part, |value| value)
+    }
+
     pub(crate) fn floats(&mut self, part: &[f32]) -> io::Result<()> {
-        for x in part {
-            self.word(patterns::bits(*x))?;
-        }
-        Ok(())
+        self.each(part, |x| patterns::bits(x))
     }
 
     // A file's bytes, four to a word, the first counting most; after a word 0 how many more zeros follow it. What is left at the end makes

@@ -13,6 +13,7 @@ use cubes::Inks;
 use outcome::Refusal;
 
 // Writes the rows of a layout's record.
+// Stays: (c) each row by a name of its own: the check has no proof where a field that is an array is stored straight.
 pub(crate) fn lay_out(
     sizes: &[u8; 16],
     n: usize,
@@ -76,6 +77,7 @@ pub(crate) fn cut(
 }
 
 // Reads a CLUT element, and writes its record's sizes.
+// Stays: (c) the sizes by a name of their own, as above.
 pub(crate) fn read(
     element: &[u8],
     n: usize,
@@ -92,6 +94,7 @@ pub(crate) fn read(
 }
 
 // Writes the cells of the 256 codes one field at a time: on the stack there is never more than one.
+// Stays: (a) C's arrays.
 pub(crate) fn range(
     g: u8,
     x: &mut [usize; 256],

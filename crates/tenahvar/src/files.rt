@@ -45,6 +45,7 @@ pub extern "C" fn tenahvar_write_table(
 }
 
 // Writes a record's sizes and counts, where there is one.
+// Stays: (c) the sizes by a name of their own: the check has no proof where a field that is an array is stored straight.
 fn tell(
     read: Result<MultidimensionalLut, Refusal>,
     sizes: &mut [u8; 16],

@@ -59,7 +59,7 @@ pub struct Plan {
 
 // A call: each ink's filling size and size, first ink first, the outputs of a node, the table, the inputs, and whether an ink from
 // the fourth on whose weight is 0 is skipped.
-// Stays: `skipping` is a bool; with a closure over weights each function down to `keep` would be generic, and compiled twice.
+// Stays: (d) `skipping` is a bool; with a closure over weights each function down to `keep` would be generic, and compiled twice.
 #[derive(Clone, Copy)]
 pub struct Call<'a> {
     pub filling: &'a [u32; 16],

@@ -29,8 +29,8 @@ pub constants-right : every (λ k. holds (entry k) (weight_cell 33 k)) (tabulate
 unfolding every tabulate holds weight_cell cell_of scale_of mul sub add sum neg round units odd size span climb of_int of_bits of_fields to_bits nan_bits
 constants-right = refl
 
-pub at_each : (index : ℕ) → index < 256 → holds (entry index) (weight_cell 33 index) ≡ true
-at_each index l =
+held_at : (index : ℕ) → index < 256 → holds (entry index) (weight_cell 33 index) ≡ true
+held_at index l =
     let test : ℕ → Bool = λ k. holds (entry k) (weight_cell 33 k) in
     let here = every-at test (tabulate 256 (λ k. k)) index constants-right (rw (length-tabulate 256 (λ k. k)) l) in
     subst (λ (k : ℕ). test k ≡ true) (get_or-tabulate 256 (λ k. k) index 0 l) here
@@ -45,12 +45,17 @@ parts : (e : ℕ × ℕ × ℕ) (c : Cell) → holds e c ≡ true
 unfolding holds
 parts e c h = grind (arith, eqb-true, not-true, and_parts)
 
+-- each entry has the nodes of the rule's cell and the bits of its weight
+pub at_each : (index : ℕ) → index < 256
+    → let e = entry index in let c = weight_cell 33 index in (e.0 ≡ c.x) × (e.1 ≡ c.x_n) × (e.2 ≡ to_bits binary32 c.w) × (nan_bits binary32 e.2 ≡ false)
+at_each index l = parts _ _ (held_at index l)
+
 pub entry-number : (index : ℕ) → index < 256 → nan_bits binary32 (entry index).2 ≡ false
-entry-number index l = (parts _ _ (at_each index l)).3
+entry-number index l = (at_each index l).3
 
 pub entry-cell : (index : ℕ) → index < 256
     → let e = entry index in record { x = e.0; x_n = e.1; w = of_bits binary32 e.2 } ≡ weight_cell 33 index
 entry-cell index l =
     let c = weight_cell 33 index in
-    let is = parts _ c (at_each index l) in
+    let is = at_each index l in
     λ i. record { x = is.0 i; x_n = is.1 i; w = (ap (of_bits binary32) is.2 ∙ of_bits-to_bits binary32 c.w (fits-w index)) i }

@@ -16,8 +16,8 @@ ink-is : (x v : Float) → Some v ≡ clip_of x → (is_nan x ≡ false) × (v �
 unfolding clip_of
 ink-is x v said = said_some (is_nan x) v (ink_of x) said
 
-pub product-p-requires : goal.product-p-requires
-product-p-requires c = subst (UpTo 1) (sym (ink-is c.args.x _ c.in_ok-ink.ensures).1) (ink-up_to c.args.x)
+pub new-product-requires : goal.new-product-requires
+new-product-requires c = subst (UpTo 1) (sym (ink-is c.args.x _ c.in_ok-ink.ensures).1) (ink-up_to c.args.x)
 
 -- the rule decides the upper node alone
 either : (b : Bool) (p : Float) (u v : ℕ) → cell_at p (cond b u v) ≡ cond b (cell_at p u) (cell_at p v)
@@ -28,4 +28,4 @@ pub returns : goal.returns
 unfolding ink_cell cell_low cell_high product_of
 returns c =
     let said = ink-is c.args.x c.in_ok-ink.ink c.in_ok-ink.ensures in
-    simp (said.0, c.cell_at.ensures, c.upper_node.ensures, c.product-p.ensures.value, said.1, either)
+    simp (said.0, c.cell.ensures, c.upper_node.ensures, c.new-product.ensures, said.1, either)
