@@ -55,6 +55,7 @@ fn term(sum: f32, t: &[f32], p: usize, q: usize, o: usize, w: f32) -> f32
     binary32::mlaf(sum, t[p + o] - t[q + o], w)
 }
 
+// Stays: (d) over a trait of f32 and Four, load, minus and mlaf would each take a contract by lanes and two impls, for two lines here.
 // The same at outputs 0 to 3.
 fn term4(sum: Four, t: &[f32], p: usize, q: usize, w: f32) -> Four
     requires { (p + 4 ≤ length t.now) × (q + 4 ≤ length t.now) }
@@ -64,6 +65,7 @@ fn term4(sum: Four, t: &[f32], p: usize, q: usize, w: f32) -> Four
     sum.with(rise, |sum, rise| binary32::mlaf(sum, rise, w))
 }
 
+// Stays: (d) `Near` as the type's own was tried: `plan_for` of specs/, which builds a plan, would have to prove it there.
 // Output o.
 pub(crate) fn tetra(t: &[f32], p: Plan, o: usize) -> f32
     requires { Near p × (p.far + o < length t.now) }
