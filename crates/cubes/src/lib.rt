@@ -41,6 +41,7 @@ pub struct Cube<'a> {
 
 impl Method {
     // The method's blend of what stands at eight corners.
+    // Stays: (d) a closure would be chosen by such a match too, at each of its calls.
     fn blend(self, c: Corners<f32>, weights: Inks<f32>) -> f32
         ensures { result ≡ blend_of self (corner_at c) weights.red weights.green weights.blue }
     {

@@ -84,6 +84,7 @@ pub fn write_table(lut: MultidimensionalLut, bits: &[u32], file: &mut [u8]) -> R
 }
 
 // The sizes of the n inks in use, then zeros.
+// Stays: (d) layout makes its row of sizes with the scales; this is all of it that a file needs.
 fn used_sizes(sizes: &[u8; 16], n: usize) -> [u8; 16]
     requires { n ≤ 16 }
     ensures { result ≡ written (λ i. slice_index sizes.now i) n (replicate 16 0) }

@@ -4,6 +4,7 @@ ghost use Rattle.lists.specs.Buffer.{written_from};
 ghost use Rattle.flash.specs.File.{word_at, byte_of, check_of};
 
 // The word at a place.
+// Stays: (d) words and blocks are at places of a file here, as document 02 has them; their bounds are one clause each.
 pub(crate) fn word(file: &[u8], at: usize) -> u32
     requires { at + 4 ≤ length file.now }
     ensures { result ≡ word_at file.now at }

@@ -50,6 +50,7 @@ impl Runs {
 
     // The same for any run. Where the last ink is cut a run is one node: with up to four outputs its length is a constant at the call, so that
     // the compiler makes a loop for it.
+    // Stays: (b) by one copy for every run, runs of one entry take five times as long, of two twice.
     pub(crate) fn cut(self, table: &[f32], slab: &mut [f32])
         requires { Fit (length table.now) (length slab.old) self }
         ensures { slab.new ≡ written (cut_entry table.now self) (self.turns * self.run) slab.old }

@@ -25,6 +25,7 @@ pub fn float(bits: u32) -> f32
 }
 
 // The digit at a place of a word, where place 0 is the most significant.
+// Stays: (a) std writes digits to a writer alone, and promises nothing of them; the library uses no heap.
 fn digit(word: u32, place: usize) -> u8
     requires { place < 8 }
     ensures { result ≡ glyph_of (word / 16 ^ (7 - place) % 16) }

@@ -30,6 +30,7 @@ impl Report {
         self.len += 1;
     }
 
+    // Stays: (d) byte by byte, since `copy_from_slice` speaks of the array's part, and the clauses of the bytes so far.
     fn push_all(&mut self, text: &[u8])
         requires { length self.old + length text.now ≤ 141 }
         ensures { self.new ≡ self.old ++ text.now }
@@ -78,6 +79,7 @@ impl Report {
         report
     }
 
+    // Stays: (a) a number: the wrong program layout_refusal_for_lookup hands over the layout's, which may be 0.
     #[tactic(auto, unfolding(crate::specs::Text::report))]
     pub(crate) fn refused(number: u32) -> Report
         requires { 0 < number }

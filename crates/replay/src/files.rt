@@ -36,6 +36,7 @@ impl<W: Write> Replay<'_, W> {
 
     // What is asked, the old contents of a buffer, and a file: what reading it answers, or with 1 its layout alone, and what
     // that leaves in the buffer.
+    // Stays: (a) the list's words are numbers, by tests/vectors; what is asked is 0 or 1.
     pub(crate) fn read(&mut self) -> io::Result<()> {
         let asked = self.list.number();
         let mut left = self.list.table_bits()?;

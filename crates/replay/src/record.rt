@@ -6,6 +6,7 @@ use outcome::Refusal;
 use std::io::{self, Write};
 
 // Places 0 to 15 are the strides, 16 to 31 the filling sizes, 32 to 47 the scales, 48 to 63 the sizes, then n and m.
+// Stays: (a) the list's places of a record are numbers, by tests/vectors.
 fn change(lut: &mut MultidimensionalLut, place: usize, value: usize) {
     let bits = low_word(value);
     let at = place % 16;

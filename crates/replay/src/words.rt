@@ -8,6 +8,7 @@ pub(crate) struct Words<'a> {
     pub(crate) alloc: Global,
 }
 
+// Stays: (d) no cast loses bits here, so that what is left out is said.
 pub(crate) fn low_word(number: usize) -> u32 {
     (number % 4294967296) as u32
 }
