@@ -27,7 +27,7 @@ fn inner(
     ensures kept { length work.new ≡ length work.old }
 {
     corners::corners(t, axes, left, offs, work);
-    fold::folds(work, offs.len(), axes, 3, k);
+    fold::folds(work, axes, 3, k);
     lanes::load(work, 0)
 }
 
@@ -99,7 +99,7 @@ fn outer(
         let f = inner(&t[*x..], axes, e, left, offs, work);
         lanes::put(high, c * 4, f);
     }
-    fold::folds(high, tops.len(), axes, e + 3, j);
+    fold::folds(high, axes, e + 3, j);
     lanes::load(high, 0)
 }
 
