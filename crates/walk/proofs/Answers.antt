@@ -34,13 +34,13 @@ shifted t o cs j =
 
 -- ---- what is given so far
 
-pub record Upto (f : ℕ → Float) (o m : ℕ) (old now : List Float) : Type 0 where
-  pub most : o ≤ m + 3
+pub record Upto (f : ℕ → Float) (o : ℕ) (old now : List Float) : Type 0 where
+  pub most : o ≤ length old + 3
   pub room : length now ≡ length old
-  pub answers : (k : ℕ) → k < o → k < m → get_or now k nan ≡ f k
+  pub answers : (k : ℕ) → k < o → k < length old → get_or now k nan ≡ f k
 
-module _ (f : ℕ → Float) (m : ℕ) (old : List Float) where
-  pub upto-more : (o : ℕ) (now next : List Float) (g : ℕ → Float) → Upto f o m old now → o < m → Given g o m now next → ((j : ℕ) → j < 4 → o + j < m → g j ≡ f (o + j)) → Upto f (o + 4) m old next
+module _ (f : ℕ → Float) (old : List Float) where
+  pub upto-more : (o : ℕ) (now next : List Float) (g : ℕ → Float) → Upto f o old now → o < length old → Given g o now next → ((j : ℕ) → j < 4 → o + j < length now → g j ≡ f (o + j)) → Upto f (o + 4) old next
   upto-more o now next g done less given same =
       record {
         most = omega arith;
@@ -51,16 +51,16 @@ module _ (f : ℕ → Float) (m : ℕ) (old : List Float) where
               | no high ↦
                   let e : k ≡ o + (k - o) = omega arith in
                   let near : k - o < 4 = omega arith in
-                  let in-m : o + (k - o) < m = omega arith in
-                  ap (λ (i : ℕ). get_or next i nan) e ∙ given.block (k - o) near in-m ∙ same (k - o) near in-m ∙ ap f (sym e)
+                  let inside : o + (k - o) < length now = omega (arith, done.room) in
+                  ap (λ (i : ℕ). get_or next i nan) e ∙ given.block (k - o) near inside ∙ same (k - o) near inside ∙ ap f (sym e)
             ];
       }
 
-  pub upto_all : (o : ℕ) (now : List Float) → Upto f o m old now → m ≤ o → Gives f m old now
+  pub upto_all : (o : ℕ) (now : List Float) → Upto f o old now → length old ≤ o → Gives f old now
   upto_all o now done all = record { room = done.room; answers = λ k h. done.answers k (omega arith) h }
 
   -- the last block
-  pub upto-last : (o : ℕ) (now next : List Float) (g : ℕ → Float) → Upto f o m old now → o < m → Given g o m now next → ((j : ℕ) → j < 4 → o + j < m → g j ≡ f (o + j)) → m ≤ o + 4 → Gives f m old next
+  pub upto-last : (o : ℕ) (now next : List Float) (g : ℕ → Float) → Upto f o old now → o < length old → Given g o now next → ((j : ℕ) → j < 4 → o + j < length now → g j ≡ f (o + j)) → length old ≤ o + 4 → Gives f old next
   upto-last o now next g done less given same = upto_all (o + 4) next (upto-more o now next g done less given same)
 
 -- a block of the part from o on, given
@@ -70,13 +70,13 @@ block-given t cs o m f holds j h less = holds j h (omega arith) ∙ shifted t o 
 -- ---- all outputs at once
 
 -- one block holds them
-pub block-gives : (f : ℕ → Float) (m : ℕ) (old now : List Float) (g : Four) → m ≤ 4 → Given (lane g) 0 m old now → Lanes f g → Gives f m old now
-block-gives f m old now g few given same =
+pub block-gives : (f : ℕ → Float) (old now : List Float) (g : Four) → length old ≤ 4 → Given (lane g) 0 old now → Lanes f g → Gives f old now
+block-gives f old now g few given same =
     record {
       room = given.room;
       answers = λ o h.
           let zeroth = zero-add o in
-          ap (λ (i : ℕ). get_or now i nan) (sym zeroth) ∙ given.block o (omega arith) (subst (λ (i : ℕ). i < m) (sym zeroth) h) ∙ same o (omega arith);
+          ap (λ (i : ℕ). get_or now i nan) (sym zeroth) ∙ given.block o (omega arith) (subst (λ (i : ℕ). i < length old) (sym zeroth) h) ∙ same o (omega arith);
     }
 
 -- ---- the corners of any inks, folded

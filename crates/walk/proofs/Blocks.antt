@@ -39,8 +39,8 @@ stored s i f = rw (add-zero i) refl
 
 -- ---- a block given
 
-pub given-block : (f : ℕ → Float) (o n m : ℕ) (old now : List Float) → now ≡ written_from o f n old → o + n ≤ length old → ((k : ℕ) → k < 4 → o + k < m → k < n) → Given f o m old now
-given-block f o n m old now is fits all =
+pub given-block : (f : ℕ → Float) (o n : ℕ) (old now : List Float) → now ≡ written_from o f n old → o + n ≤ length old → ((k : ℕ) → k < 4 → o + k < length old → k < n) → Given f o old now
+given-block f o n old now is fits all =
     record {
       room = ap length is ∙ length-written-from o f n old;
       before = λ k h. ap (λ (l : List Float). get_or l k nan) is ∙ written-from-before o f n old k nan h;

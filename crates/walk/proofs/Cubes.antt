@@ -75,7 +75,7 @@ module _ {call : Call} (ready : Ready call) (from : 3 ≤ length call.inputs.now
           ∙ part-answers ready n is at base o
 
       pub cube-done : NoNans call.inputs.now n → (f : ℕ → Float) → ((o : ℕ) → f o ≡ cube_answers o) → (old given : List Float) → call.m ≤ length old
-          → Gives f call.m (take call.m old) given → SettledBy call old 0 (given ++ drop call.m old)
+          → Gives f (take call.m old) given → SettledBy call old 0 (given ++ drop call.m old)
       cube-done each f are old given room gives =
           cells-done ready n is (all-numbers call.inputs.now n each is) f (λ o h. are o ∙ same o h) old _ (prefix-written f call.m old given room gives)
 
@@ -101,7 +101,7 @@ module _ {call : Call} (ready : Ready call) {p : Plan} {at : ℕ} (cubed : Cubed
     pub three-near : Near p × (p.far + call.m ≤ length (take (length call.table.now - at) (drop at call.table.now)))
     three-near = (cube-near ready some3 p cubed.plan, omega (arith, cube-reach ready some3 p cubed.plan [] 3 is refl at cubed.base))
 
-    pub three-done : (old given : List Float) → call.m ≤ length old → Gives (λ o. tetra_of p o (take (length call.table.now - at) (drop at call.table.now))) call.m (take call.m old) given
+    pub three-done : (old given : List Float) → call.m ≤ length old → Gives (λ o. tetra_of p o (take (length call.table.now - at) (drop at call.table.now))) (take call.m old) given
         → SettledBy call old 0 (given ++ drop call.m old)
     three-done = cube-done ready some3 p cubed.plan [] 3 is refl at cubed.base cubed.numbers _ (λ o. refl)
 
@@ -128,7 +128,7 @@ module _ {call : Call} (ready : Ready call) {p : Plan} {at : ℕ} (cubed : Cubed
     four-near = (cube-near ready some4 p cubed.plan, omega (arith, cube-reach ready some4 p cubed.plan (h ∷ []) 4 is all (at + h.x) base))
 
     pub four-done : (alone : Bool) → alone ≡ (skip_by call) h.w → (old given : List Float) → call.m ≤ length old
-        → Gives (λ o. fourth alone (tetra_of p o upper-part) (tetra_of p o (drop (h.x_n - h.x) upper-part)) h.w) call.m (take call.m old) given
+        → Gives (λ o. fourth alone (tetra_of p o upper-part) (tetra_of p o (drop (h.x_n - h.x) upper-part)) h.w) (take call.m old) given
         → SettledBy call old 0 (given ++ drop call.m old)
     four-done alone skipped =
         cube-done ready some4 p cubed.plan (h ∷ []) 4 is all (at + h.x) base (nans-next call.inputs.now 3 cubed.numbers number) _

@@ -1,5 +1,5 @@
 -- The inks of an accepted layout by their steps: within the table, and the answers are those of the table. Assumes nothing.
-use Prim.Native.Nat.{ℕ, zero, suc, ◌+◌, ◌-◌, ◌*◌, ◌^◌, ◌≤◌}
+use Prim.Native.Nat.{ℕ, zero, suc, ◌+◌, ◌-◌, ◌*◌, ◌^◌, ◌<◌, ◌≤◌}
 use native.Mathlib.Omega.{arith}
 use native.Mathlib.Nat.{zero-add}
 use native.Mathlib.Decide.{dec_lt}
@@ -58,16 +58,22 @@ light-steps (c ∷ cs) proper = (proper.0.1, light-steps cs proper.1)
 pub prefix-length : (m : ℕ) (old part : List Float) → m ≤ length old → length part ≡ m → length (part ++ drop m old) ≡ length old
 prefix-length m old part room count = length-append part (drop m old) ∙ (let e = length-drop m old in omega (arith, count, e))
 
-pub prefix-written : (f : ℕ → Float) (m : ℕ) (old part : List Float) → m ≤ length old → Gives f m (take m old) part → part ++ drop m old ≡ written f m old
+pub prefix-written : (f : ℕ → Float) (m : ℕ) (old part : List Float) → m ≤ length old → Gives f (take m old) part → part ++ drop m old ≡ written f m old
 prefix-written f m old part room gives =
     written_is f m old (part ++ drop m old) nan room (prefix-length m old part room count)
-    (λ k h. get_or-append part (drop m old) nan k (omega (arith, count)) ∙ gives.answers k h)
+    (λ k h. get_or-append part (drop m old) nan k (omega (arith, count)) ∙ gives.answers k (subst (λ (n : ℕ). k < n) (sym taken) h))
     (λ k h. let e : k ≡ length part + (k - m) = omega (arith, count) in
     let f : m + (k - m) ≡ k = omega arith in
     ap (λ (i : ℕ). get_or (part ++ drop m old) i nan) e ∙ get_or-append-add part (drop m old) (k - m) nan ∙ get_or-drop m old (k - m) nan ∙ ap (λ (i : ℕ). get_or old i nan) f)
   where
+    taken : length (take m old) ≡ m
+    taken = length-take-le m old room
+
     count : length part ≡ m
-    count = gives.room ∙ length-take-le m old room
+    count = gives.room ∙ taken
+
+pub prefix-inside : (m : ℕ) (old : List Float) → m ≤ length old → (from most : ℕ) → from + m ≤ most → from + length (take m old) ≤ most
+prefix-inside m old room from most fits = rw (length-take-le m old room) fits
 
 -- ---- all inks
 
@@ -82,7 +88,7 @@ module _ {call : Call} (ready : Ready call) (n : ℕ) (is : length call.inputs.n
   reads-are = ap (reads (skip_by call)) (inks-weights call.filling.now call.sizes.now call.inputs.now call.m ready.laid call.table.now ready.enough n is)
 
   -- the inks themselves
-  pub inks-given : NoNans call.inputs.now n → (inks : List Cell) → inks ≡ cs → (old part : List Float) → call.m ≤ length old → Gives (answer call.table.now inks) call.m (take call.m old) part
+  pub inks-given : NoNans call.inputs.now n → (inks : List Cell) → inks ≡ cs → (old part : List Float) → call.m ≤ length old → Gives (answer call.table.now inks) (take call.m old) part
       → ((o : ℕ) → answer call.table.now cs o ≡ answer_by (skip_by call) call.table.now cs o) → SettledBy call old 0 (part ++ drop call.m old)
   inks-given each inks are old part room gives same =
       cells-done ready n is (all-numbers call.inputs.now n each is) (answer call.table.now inks) (λ o h. ap (λ (l : List Cell). answer call.table.now l o) are ∙ same o) old _
@@ -128,7 +134,7 @@ module _ {call : Call} (ready : Ready call) (n : ℕ) (is : length call.inputs.n
           ∙ ap (λ (l : List Cell). answer_by (skip_by call) from l o) all_are
           ∙ part-answers o
 
-      array-done : some is_nan call.inputs.now ≡ false → (old part : List Float) → call.m ≤ length old → Gives (answer from (steps_at axes' 0 r)) call.m (take call.m old) part
+      array-done : some is_nan call.inputs.now ≡ false → (old part : List Float) → call.m ≤ length old → Gives (answer from (steps_at axes' 0 r)) (take call.m old) part
           → SettledBy call old 0 (part ++ drop call.m old)
       array-done none old part room gives =
           cells-done ready n is none (answer_by (skip_by call) call.table.now cs) (λ o h. refl) old (part ++ drop call.m old)
@@ -143,7 +149,7 @@ pub record InksKept (call : Call) (at : ℕ) (axes : List Axis) (r : ℕ) : Type
   pub starts : at + call.m ≤ length call.table.now
   pub weights : Weighed axes r
   pub reaches : reach (steps_at axes 0 r) + call.m ≤ length (take (length call.table.now - at) (drop at call.table.now))
-  pub done : (old part : List Float) → call.m ≤ length old → Gives (answer (take (length call.table.now - at) (drop at call.table.now)) (steps_at axes 0 r)) call.m (take call.m old) part
+  pub done : (old part : List Float) → call.m ≤ length old → Gives (answer (take (length call.table.now - at) (drop at call.table.now)) (steps_at axes 0 r)) (take call.m old) part
       → SettledBy call old 0 (part ++ drop call.m old)
   pub counted : 6 * 2 ^ (r - 3) ≡ reads_by call
 

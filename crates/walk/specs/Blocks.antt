@@ -20,13 +20,13 @@ Holds v left f = (o : ℕ) → o < 4 → o < left → lane f o ≡ v o
 abbrev pub at : List Float → ℕ → Float
 at l i = get_or l i nan
 
--- the first m entries of a buffer, `now`, which was `old`, are the answers; nothing is said of the others
-pub record Gives (f : ℕ → Float) (m : ℕ) (old now : List Float) : Type 0 where
+-- the entries of a buffer, `now`, which was `old`, are the answers
+pub record Gives (f : ℕ → Float) (old now : List Float) : Type 0 where
   pub room : length now ≡ length old
-  pub answers : (o : ℕ) → o < m → get_or now o nan ≡ f o
+  pub answers : (o : ℕ) → o < length old → get_or now o nan ≡ f o
 
 -- a block written at o: what stands before it is kept
-pub record Given (f : ℕ → Float) (o m : ℕ) (old now : List Float) : Type 0 where
+pub record Given (f : ℕ → Float) (o : ℕ) (old now : List Float) : Type 0 where
   pub room : length now ≡ length old
   pub before : (k : ℕ) → k < o → get_or now k nan ≡ get_or old k nan
-  pub block : (k : ℕ) → k < 4 → o + k < m → get_or now (o + k) nan ≡ f k
+  pub block : (k : ℕ) → k < 4 → o + k < length old → get_or now (o + k) nan ≡ f k

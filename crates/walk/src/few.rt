@@ -11,41 +11,38 @@ use cell::Cell;
 use outcome::Refusal;
 
 // Output by output.
-fn each<F: Fn(usize) -> f32>(m: usize, out: &mut [f32], answer: F)
-    requires room { m ≤ length out.old }
-    requires callable { (o : ℕ) → o < m → F.pre answer o }
-    ensures { (o : ℕ) → o < m → F.post answer o (at out.new o) }
+fn each<F: Fn(usize) -> f32>(out: &mut [f32], answer: F)
+    requires { (o : ℕ) → o < length out.old → F.pre answer o }
+    ensures { (o : ℕ) → o < length out.old → F.post answer o (at out.new o) }
 {
-    for o in 0..m {
+    for o in 0..out.len() {
         out[o] = answer(o);
     }
 }
 
 // One ink, with the nodes of its cell as distances in entries.
-fn one(part: &[f32], c: Cell, m: usize, out: &mut [f32])
-    requires x_bound { (c.x ≤ c.x_n) × (c.x_n + m ≤ length part.now) }
-    requires room { m ≤ length out.old }
-    ensures { Gives (answer part.now (c ∷ [])) m out.old out.new }
+fn one(part: &[f32], c: Cell, out: &mut [f32])
+    requires { (c.x ≤ c.x_n) × (c.x_n + length out.old ≤ length part.now) }
+    ensures { Gives (answer part.now (c ∷ [])) out.old out.new }
 {
     let along = |lower, upper| binary32::along(lower, upper, c.w);
-    if !lanes::one_block(m, part.len() - c.x_n) {
-        return each(m, out, |o| along(part[c.x + o], part[c.x_n + o]));
+    if !lanes::one_block(out.len(), part.len() - c.x_n) {
+        return each(out, |o| along(part[c.x + o], part[c.x_n + o]));
     }
     let f = lanes::load(part, c.x).with(lanes::load(part, c.x_n), along);
-    lanes::give(f, 0, m, out);
+    lanes::give(f, 0, out);
 }
 
 // Two inks: along ink 1 at both nodes of ink 2, then along ink 2.
-fn two(part: &[f32], c: Cell, d: Cell, m: usize, out: &mut [f32])
-    requires x_bound { (c.x ≤ c.x_n) × (d.x ≤ d.x_n) × (d.x_n + c.x_n + m ≤ length part.now) }
-    requires room { m ≤ length out.old }
-    ensures { Gives (answer part.now (d ∷ c ∷ [])) m out.old out.new }
+fn two(part: &[f32], c: Cell, d: Cell, out: &mut [f32])
+    requires { (c.x ≤ c.x_n) × (d.x ≤ d.x_n) × (d.x_n + c.x_n + length out.old ≤ length part.now) }
+    ensures { Gives (answer part.now (d ∷ c ∷ [])) out.old out.new }
 {
     let along_c = |lower, upper| binary32::along(lower, upper, c.w);
     let along_d = |lower, upper| binary32::along(lower, upper, d.w);
     let far = d.x_n + c.x_n;
-    if !lanes::one_block(m, part.len() - far) {
-        return each(m, out, |o| {
+    if !lanes::one_block(out.len(), part.len() - far) {
+        return each(out, |o| {
             let below = along_c(part[d.x + c.x + o], part[d.x + c.x_n + o]);
             let above = along_c(part[d.x_n + c.x + o], part[far + o]);
             along_d(below, above)
@@ -53,45 +50,43 @@ fn two(part: &[f32], c: Cell, d: Cell, m: usize, out: &mut [f32])
     }
     let below = lanes::load(part, d.x + c.x).with(lanes::load(part, d.x + c.x_n), along_c);
     let above = lanes::load(part, d.x_n + c.x).with(lanes::load(part, far), along_c);
-    lanes::give(below.with(above, along_d), 0, m, out);
+    lanes::give(below.with(above, along_d), 0, out);
 }
 
 // Three inks, in the part that starts at the lowest corner. Inlined at both calls: a lookup of three inks then costs no call
 // within.
 #[inline(always)]
-fn three(t: &[f32], p: Plan, m: usize, out: &mut [f32])
-    requires near { Near p × (p.far + m ≤ length t.now) }
-    requires room { m ≤ length out.old }
-    ensures { Gives (λ o. tetra_of p o t.now) m out.old out.new }
+fn three(t: &[f32], p: Plan, out: &mut [f32])
+    requires { Near p × (p.far + length out.old ≤ length t.now) }
+    ensures { Gives (λ o. tetra_of p o t.now) out.old out.new }
 {
-    if !lanes::one_block(m, t.len() - p.far) {
-        return each(m, out, |o| tetra::tetra(t, p, o));
+    if !lanes::one_block(out.len(), t.len() - p.far) {
+        return each(out, |o| tetra::tetra(t, p, o));
     }
-    lanes::give(tetra::tetra4(t, p), 0, m, out);
+    lanes::give(tetra::tetra4(t, p), 0, out);
 }
 
 // Four inks: along ink 4, whose step is h, between the answers of three. `alone`: ink 4 is skipped, and the lower answer is
 // taken as it stands.
-fn four(t: &[f32], p: Plan, h: usize, w: f32, alone: bool, m: usize, out: &mut [f32])
-    requires near { Near p × (p.far + h + m ≤ length t.now) }
-    requires room { m ≤ length out.old }
+// Stays: (d) `alone` is one test for all outputs; as an Option of the ink it would be matched once for a block and once for each output.
+fn four(t: &[f32], p: Plan, h: usize, w: f32, alone: bool, out: &mut [f32])
+    requires { Near p × (p.far + h + length out.old ≤ length t.now) }
     ensures { Gives (λ o. fourth alone (tetra_of p o t.now) (tetra_of p o (drop h t.now)) w)
-        m out.old out.new }
+        out.old out.new }
 {
     if alone {
-        return three(t, p, m, out);
+        return three(t, p, out);
     }
     let upper = &t[h..];
     let along = |lower, upper| binary32::lerp(lower, upper, w);
-    if !lanes::one_block(m, upper.len() - p.far) {
+    if !lanes::one_block(out.len(), upper.len() - p.far) {
         return each(
-            m,
             out,
             |o| along(tetra::tetra(t, p, o), tetra::tetra(upper, p, o)),
         );
     }
     let f = tetra::tetra4(t, p).with(tetra::tetra4(upper, p), along);
-    lanes::give(f, 0, m, out);
+    lanes::give(f, 0, out);
 }
 
 // One ink or two, with the reads: 2 or 4. No answer is written before every input is a cell.
@@ -104,11 +99,11 @@ pub(crate) fn one_or_two(call: &Call, answer: &mut [f32]) -> Result<u32, Refusal
 {
     let c = call.ink(0)?;
     if call.inputs.len() == 1 {
-        one(call.table, c, call.m, &mut answer[..call.m]);
+        one(call.table, c, &mut answer[..call.m]);
         return Ok(2);
     }
     let d = call.ink(1)?;
-    two(call.table, c, d, call.m, &mut answer[..call.m]);
+    two(call.table, c, d, &mut answer[..call.m]);
     Ok(4)
 }
 
@@ -134,9 +129,8 @@ pub(crate) fn three_or_four(call: &Call, answer: &mut [f32]) -> Result<u32, Refu
     ensures counted { CountedBy call.now result }
 {
     let (p, at) = cube(call)?;
-    let m = call.m;
     if call.inputs.len() == 3 {
-        three(&call.table[at..], p, m, &mut answer[..m]);
+        three(&call.table[at..], p, &mut answer[..call.m]);
         return Ok(6);
     }
     let h = call.ink(3)?;
@@ -147,8 +141,7 @@ pub(crate) fn three_or_four(call: &Call, answer: &mut [f32]) -> Result<u32, Refu
         h.x_n - h.x,
         h.w,
         alone,
-        m,
-        &mut answer[..m],
+        &mut answer[..call.m],
     );
     Ok(count::reads_of(3 + usize::from(!alone)))
 }

@@ -46,24 +46,24 @@ impl Four {
     }
 }
 
-// The answers from o on: four where out has room for four, else as many as are left of m. (Three at once, since three
+// The answers from o on: four where out has room for four, else as many as are left. (Three at once, since three
 // outputs are the most usual count.)
-pub(crate) fn give(f: Four, o: usize, m: usize, out: &mut [f32])
-    requires { (o ≤ m) × (m ≤ length out.old) }
-    ensures { Given (lane f) o m out.old out.new }
+pub(crate) fn give(f: Four, o: usize, out: &mut [f32])
+    requires { o ≤ length out.old }
+    ensures { Given (lane f) o out.old out.new }
 {
     if out.len() - o >= 4 {
         put(out, o, f);
         return;
     }
-    if m - o == 3 {
+    if out.len() - o == 3 {
         out[o] = f.a;
         out[o + 1] = f.b;
         out[o + 2] = f.c;
         return;
     }
     let lanes = [f.a, f.b, f.c, f.d];
-    for i in 0..m - o {
+    for i in 0..out.len() - o {
         out[o + i] = lanes[i];
     }
 }

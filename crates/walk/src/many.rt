@@ -11,6 +11,7 @@ use crate::{Axis, Call, Four, cells, corners, count, fold, lanes};
 use outcome::Refusal;
 
 // A block of three inks and k more in a part of the table: all corners, then the folds.
+// Stays: (d) the part, the inks and the room are lent anew at each level; a struct of them would be made at every call.
 fn inner(
     t: &[f32],
     axes: &[Axis; 16],
@@ -26,7 +27,7 @@ fn inner(
     ensures kept { length work.new ≡ length work.old }
 {
     corners::corners(t, axes, left, offs, work);
-    fold::folds(work, offs.len(), axes, 3, k);
+    fold::folds(work, axes, 3, k);
     lanes::load(work, 0)
 }
 
@@ -35,21 +36,20 @@ fn walk(
     t: &[f32],
     axes: &[Axis; 16],
     k: usize,
-    m: usize,
     offs: &mut [usize],
     work: &mut [f32],
     out: &mut [f32],
 )
-    requires k_bound { (k ≤ 12) × (m ≤ 15) × Weighed axes.now 3 }
-    requires m_in_bounds { reach (steps_at axes.now 0 (k + 3)) + m ≤ length t.now }
-    requires k_in_bounds { (2 ^ k ≤ length offs.old) × (2 ^ k * 4 ≤ length work.old) × (m ≤ length out.old) }
+    requires k_bound { (k ≤ 12) × (length out.old ≤ 15) × Weighed axes.now 3 }
+    requires out_in_bounds { reach (steps_at axes.now 0 (k + 3)) + length out.old ≤ length t.now }
+    requires k_in_bounds { (2 ^ k ≤ length offs.old) × (2 ^ k * 4 ≤ length work.old) }
     ensures { Gives (answer t.now (steps_at axes.now 0 (k + 3)))
-        m out.old out.new }
+        out.old out.new }
 {
     let offs = corners::distances(axes, 3, k, offs);
-    for o in (0..m).step_by(4) {
-        let f = inner(&t[o..], axes, k, m - o, offs, work);
-        lanes::give(f, o, m, out);
+    for o in (0..out.len()).step_by(4) {
+        let f = inner(&t[o..], axes, k, out.len() - o, offs, work);
+        lanes::give(f, o, out);
     }
 }
 
@@ -58,19 +58,18 @@ fn roomy<const CORNERS: usize, const LANES: usize>(
     t: &[f32],
     axes: &[Axis; 16],
     k: usize,
-    m: usize,
     out: &mut [f32],
 )
-    requires k_bound { (k ≤ 12) × (m ≤ 15) × Weighed axes.now 3 }
-    requires m_in_bounds { reach (steps_at axes.now 0 (k + 3)) + m ≤ length t.now }
+    requires k_bound { (k ≤ 12) × (length out.old ≤ 15) × Weighed axes.now 3 }
+    requires out_in_bounds { reach (steps_at axes.now 0 (k + 3)) + length out.old ≤ length t.now }
     requires sizes { (CORNERS ≤ 64) × (LANES ≤ 256) }
-    requires room { (2 ^ k ≤ CORNERS) × (2 ^ k * 4 ≤ LANES) × (m ≤ length out.old) }
+    requires room { (2 ^ k ≤ CORNERS) × (2 ^ k * 4 ≤ LANES) }
     ensures { Gives (answer t.now (steps_at axes.now 0 (k + 3)))
-        m out.old out.new }
+        out.old out.new }
 {
     let mut offs = [0usize; CORNERS];
     let mut work = [0.0f32; LANES];
-    walk(t, axes, k, m, &mut offs, &mut work, out);
+    walk(t, axes, k, &mut offs, &mut work, out);
 }
 
 // A block of three inks, e more, and j more: the block of e + 3 inks at each corner of the last j, then the folds over those.
@@ -100,7 +99,7 @@ fn outer(
         let f = inner(&t[*x..], axes, e, left, offs, work);
         lanes::put(high, c * 4, f);
     }
-    fold::folds(high, tops.len(), axes, e + 3, j);
+    fold::folds(high, axes, e + 3, j);
     lanes::load(high, 0)
 }
 
@@ -110,63 +109,60 @@ fn tower(
     axes: &[Axis; 16],
     e: usize,
     j: usize,
-    m: usize,
     offs: &mut [usize],
     tops: &mut [usize],
     work: &mut [f32],
     high: &mut [f32],
     out: &mut [f32],
 )
-    requires j_bound { (e + 3 + j ≤ 16) × (m ≤ 15) × Weighed axes.now 3 }
-    requires m_in_bounds { reach (steps_at axes.now 0 (j + (e + 3))) + m ≤ length t.now }
+    requires j_bound { (e + 3 + j ≤ 16) × (length out.old ≤ 15) × Weighed axes.now 3 }
+    requires out_in_bounds { reach (steps_at axes.now 0 (j + (e + 3))) + length out.old ≤ length t.now }
     requires e_in_bounds { (2 ^ e ≤ length offs.old) × (2 ^ e * 4 ≤ length work.old) }
-    requires j_in_bounds { (2 ^ j ≤ length tops.old) × (2 ^ j * 4 ≤ length high.old) × (m ≤ length out.old) }
+    requires j_in_bounds { (2 ^ j ≤ length tops.old) × (2 ^ j * 4 ≤ length high.old) }
     ensures { Gives (answer t.now (steps_at axes.now 0 (j + (e + 3))))
-        m out.old out.new }
+        out.old out.new }
 {
     let offs = corners::distances(axes, 3, e, offs);
     let tops = corners::distances(axes, e + 3, j, tops);
-    for o in (0..m).step_by(4) {
-        let f = outer(&t[o..], axes, e, j, m - o, offs, tops, work, high);
-        lanes::give(f, o, m, out);
+    for o in (0..out.len()).step_by(4) {
+        let f = outer(&t[o..], axes, e, j, out.len() - o, offs, tops, work, high);
+        lanes::give(f, o, out);
     }
 }
 
 // Nine inks and j more: room for the corners of six further inks, and for those of six.
-fn highest(t: &[f32], axes: &[Axis; 16], j: usize, m: usize, out: &mut [f32])
-    requires j_bound { (j ≤ 6) × (m ≤ 15) × Weighed axes.now 3 }
-    requires m_in_bounds { reach (steps_at axes.now 0 (j + 9)) + m ≤ length t.now }
-    requires room { m ≤ length out.old }
+fn highest(t: &[f32], axes: &[Axis; 16], j: usize, out: &mut [f32])
+    requires j_bound { (j ≤ 6) × (length out.old ≤ 15) × Weighed axes.now 3 }
+    requires out_in_bounds { reach (steps_at axes.now 0 (j + 9)) + length out.old ≤ length t.now }
     ensures { Gives (answer t.now (steps_at axes.now 0 (j + 9)))
-        m out.old out.new }
+        out.old out.new }
 {
     let mut offs = [0usize; 64];
     let mut tops = [0usize; 64];
     let mut work = [0.0f32; 256];
     let mut high = [0.0f32; 256];
     tower(
-        t, axes, 6, j, m, &mut offs, &mut tops, &mut work, &mut high, out,
+        t, axes, 6, j, &mut offs, &mut tops, &mut work, &mut high, out,
     );
 }
 
 // Three inks and more, from the part that starts at the lowest corner, and the inks' steps and weights.
-fn blend(t: &[f32], n: usize, axes: &[Axis; 16], m: usize, out: &mut [f32])
-    requires le_n { (3 ≤ n) × (n ≤ 15) × (m ≤ 15) }
+fn blend(t: &[f32], n: usize, axes: &[Axis; 16], out: &mut [f32])
+    requires le_n { (3 ≤ n) × (n ≤ 15) × (length out.old ≤ 15) }
     requires weighed { Weighed axes.now 3 }
-    requires m_in_bounds { reach (steps_at axes.now 0 n) + m ≤ length t.now }
-    requires room { m ≤ length out.old }
+    requires out_in_bounds { reach (steps_at axes.now 0 n) + length out.old ≤ length t.now }
     ensures { Gives (answer t.now (steps_at axes.now 0 n))
-        m out.old out.new }
+        out.old out.new }
 {
     let k = n - 3;
     // less room costs less to clear
     if k <= 3 {
-        return roomy::<8, 32>(t, axes, k, m, out);
+        return roomy::<8, 32>(t, axes, k, out);
     }
     if k <= 6 {
-        return roomy::<64, 256>(t, axes, k, m, out);
+        return roomy::<64, 256>(t, axes, k, out);
     }
-    highest(t, axes, n - 9, m, out)
+    highest(t, axes, n - 9, out)
 }
 
 // Three inks and more, with the reads.
@@ -180,7 +176,6 @@ pub(crate) fn many(call: &Call, answer: &mut [f32]) -> Result<u32, Refusal>
     let mut axes = [Axis { step: 0, w: 0.0 }; 16];
     let at = call.cells(&mut axes)?;
     let n = cells::keep(&mut axes, call.inputs.len(), call.skipping);
-    let m = call.m;
-    blend(&call.table[at..], n, &axes, m, &mut answer[..m]);
+    blend(&call.table[at..], n, &axes, &mut answer[..call.m]);
     Ok(count::reads_of(n))
 }

@@ -26,7 +26,7 @@ returns-then-not-one_block c =
 
 pub returns : goal.returns
 returns c =
-    block-gives _ _ _ _ _ (c.one_block.ensures c.if-not-one_block.false).0 c.give.ensures
+    block-gives _ _ _ _ (c.one_block.ensures c.if-not-one_block.false).0 c.give.ensures
     (λ o h. let e = c.with-f.ensures o h in
     let a = c.args in
     let given : lane c.with-f.result o ≡ lerp (lane c.tetra4.result o) (lane c.tetra4-2.result o) c.args.w = search rules in

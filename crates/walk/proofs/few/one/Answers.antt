@@ -18,7 +18,7 @@ returns-then-not-one_block c =
 
 pub returns : goal.returns
 returns c =
-    block-gives _ _ _ _ _ (c.one_block.ensures c.if-not-one_block.false).0 c.give.ensures
+    block-gives _ _ _ _ (c.one_block.ensures c.if-not-one_block.false).0 c.give.ensures
     (λ o h. let e = c.with-f.ensures o h in
     let given : lane c.with-f.result o ≡ along (lane c.load.result o) (lane c.load-2.result o) c.args.c.w = search rules in
     cc (c.load.ensures o h, c.load-2.ensures o h, one-ink c.args.part.now o c.args.c))

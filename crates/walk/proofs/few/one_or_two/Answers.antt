@@ -3,7 +3,7 @@ use Rattle.std.proofs.Common.{◌≡◌, ◌<◌, arith, length, ap, ap₂, [], 
 use Rattle.std.proofs.lemmas.Result.{err_from_is_err_and}
 use Rattle.cell.specs.declared.Cell.{Cell}
 use Rattle.walk.proofs.Reading.{no_nans, nans-next, nan-at, settled-nan, ink-ordered, one-inside, two-inside}
-use Rattle.walk.proofs.Grids.{inks-given}
+use Rattle.walk.proofs.Grids.{inks-given, prefix-inside}
 use Rattle.walk.proofs.Counting.{one-read, two-reads, one_answer, two_answers}
 use Rattle.walk.proofs.few.one_or_two.Goals as goal
 
@@ -13,11 +13,11 @@ returns-in_err-c-clause-settled c =
     let e = c.in_err-c.ensures in
     rw (p.1, p.2) (settled-nan c.args.call.now.inputs.now _ _ _ _ (nan-at _ 0 c.requires.ready.laid.inks-from e.0) e.1)
 
-pub one-requires-clause-x_bound : goal.one-requires-clause-x_bound
-one-requires-clause-x_bound c =
+pub one-requires : goal.one-requires
+one-requires c =
     let ready = c.requires.ready in
     let is = c.in_ok-c.ensures.1 in
-    (ink-ordered ready 0 ready.laid.inks-from _ is, one-inside ready _ is)
+    (ink-ordered ready 0 ready.laid.inks-from _ is, prefix-inside _ _ c.requires.room _ _ (one-inside ready _ is))
 
 pub returns-then-call-eq1-clause-settled : goal.returns-then-call-eq1-clause-settled
 returns-then-call-eq1-clause-settled c =
@@ -36,14 +36,14 @@ returns-in_err-d-clause-settled c =
     let less : 1 < length c.args.call.now.inputs.now = omega arith in
     rw (p.1, p.2) (settled-nan c.args.call.now.inputs.now _ _ _ _ (nan-at _ 1 less e.0) e.1)
 
-pub two-requires-clause-x_bound : goal.two-requires-clause-x_bound
-two-requires-clause-x_bound c =
+pub two-requires : goal.two-requires
+two-requires c =
     let ready = c.requires.ready in
     let is = c.in_ok-c.ensures.1 in
     let also = c.in_ok-d.ensures.1 in
     let from = ready.laid.inks-from in
     let less : 1 < length c.args.call.now.inputs.now = omega arith in
-    (ink-ordered ready 0 from _ is, ink-ordered ready 1 less _ also, two-inside ready less _ _ is also)
+    (ink-ordered ready 0 from _ is, ink-ordered ready 1 less _ also, prefix-inside _ _ c.requires.room _ _ (two-inside ready less _ _ is also))
 
 pub returns-clause-settled : goal.returns-clause-settled
 returns-clause-settled c =

@@ -4,6 +4,7 @@ use Rattle.std.proofs.lemmas.Result.{err_from_is_err_and}
 use mir.Val.{bool_byte}
 use Rattle.walk.proofs.Reading.{nan-at, settled-nan, ink-ordered}
 use Rattle.walk.proofs.Kept.{place}
+use Rattle.walk.proofs.Grids.{prefix-inside}
 use Rattle.walk.proofs.Cubes.{three-starts, three-near, three-done, three-reads, four-starts, four-near, four-done, four-reads}
 use Rattle.walk.proofs.few.three_or_four.Goals as goal
 
@@ -18,8 +19,10 @@ slice_bounds-three-count c = omega (arith, three-starts c.requires.ready c.in_ok
 pub slice_bounds-three-start : goal.slice_bounds-three-start
 slice_bounds-three-start c = omega (arith, three-starts c.requires.ready c.in_ok-p.ensures c.if-call-eq3.true)
 
-pub three-requires-clause-near : goal.three-requires-clause-near
-three-requires-clause-near c = three-near c.requires.ready c.in_ok-p.ensures c.if-call-eq3.true
+pub three-requires : goal.three-requires
+three-requires c =
+    let near = three-near c.requires.ready c.in_ok-p.ensures c.if-call-eq3.true in
+    (near.0, prefix-inside _ _ c.requires.room _ _ near.1)
 
 pub returns-then-call-eq3-clause-settled : goal.returns-then-call-eq3-clause-settled
 returns-then-call-eq3-clause-settled c =
@@ -66,11 +69,12 @@ overflow_sub-h c =
     let less : 3 < length c.args.call.now.inputs.now = omega arith in
     ink-ordered c.requires.ready 3 less _ c.in_ok-h.ensures.1
 
-pub four-requires-clause-near : goal.four-requires-clause-near
-four-requires-clause-near c =
+pub four-requires : goal.four-requires
+four-requires c =
     let h = c.in_ok-h.ensures in
     let is : length c.args.call.now.inputs.now ≡ 4 = omega arith in
-    four-near c.requires.ready c.in_ok-p.ensures is _ h.0 h.1
+    let near = four-near c.requires.ready c.in_ok-p.ensures is _ h.0 h.1 in
+    (near.0, prefix-inside _ _ c.requires.room _ _ near.1)
 
 pub returns-clause-settled : goal.returns-clause-settled
 returns-clause-settled c =

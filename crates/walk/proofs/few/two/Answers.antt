@@ -19,7 +19,7 @@ returns-then-not-one_block c =
 
 pub returns : goal.returns
 returns c =
-    block-gives _ _ _ _ _ (c.one_block.ensures c.if-not-one_block.false).0 c.give.ensures
+    block-gives _ _ _ _ (c.one_block.ensures c.if-not-one_block.false).0 c.give.ensures
     (λ o h. let e = c.with.ensures o h in
     let f = c.with-below.ensures o h in
     let g = c.with-above.ensures o h in

@@ -1,6 +1,6 @@
 -- `walk::many::many`: the inks that are kept, from the lowest corner on.
 use Rattle.std.proofs.Common.{arith, ◌∙◌}
-use Rattle.walk.proofs.Grids.{inks-kept}
+use Rattle.walk.proofs.Grids.{inks-kept, prefix-inside}
 use Rattle.walk.proofs.many.many.Goals as goal
 
 pub offset_bounds-call-at : goal.offset_bounds-call-at
@@ -23,10 +23,10 @@ blend-requires-clause-weighed c i h =
     let e = c.in_ok-at.ensures in
     (inks-kept c.requires.ready c.requires.some _ e.lowest _ e.steps _ _ c.keep-n.ensures.inks).weights i (omega (arith, c.keep-n.ensures.few))
 
-pub blend-requires-clause-m_in_bounds : goal.blend-requires-clause-m_in_bounds
-blend-requires-clause-m_in_bounds c =
+pub blend-requires-clause-out_in_bounds : goal.blend-requires-clause-out_in_bounds
+blend-requires-clause-out_in_bounds c =
     let e = c.in_ok-at.ensures in
-    (inks-kept c.requires.ready c.requires.some _ e.lowest _ e.steps _ _ c.keep-n.ensures.inks).reaches
+    prefix-inside _ _ c.requires.room _ _ (inks-kept c.requires.ready c.requires.some _ e.lowest _ e.steps _ _ c.keep-n.ensures.inks).reaches
 
 pub returns-clause-settled : goal.returns-clause-settled
 returns-clause-settled c =

@@ -16,7 +16,7 @@ outer-f-requires-clause-left_in_bounds c =
     top-inside _ _ _ _ c.distances-tops.ensures _ _ (rw from-length (omega arith))
 
 pub loop-o-preserved : goal.loop-o-preserved
-loop-o-preserved c = upto-more _ _ _ _ _ _ (lane c.outer-f.result) c.loop-o.invariant c.loop-o-test.true c.give.ensures (tower-given c.args.axes.now _ _ c.requires.j_bound.2 _ _ _ _ c.outer-f.ensures.holds)
+loop-o-preserved c = upto-more _ _ _ _ _ (lane c.outer-f.result) c.loop-o.invariant c.loop-o-test.true c.give.ensures (tower-given c.args.axes.now _ _ c.requires.j_bound.2 _ _ _ _ c.outer-f.ensures.holds)
 
 pub returns-2 : goal.returns-2
-returns-2 c = upto-last _ _ _ _ _ _ (lane c.outer-f.result) c.loop-o.invariant c.loop-o-test.true c.give.ensures (tower-given c.args.axes.now _ _ c.requires.j_bound.2 _ _ _ _ c.outer-f.ensures.holds) (omega arith)
+returns-2 c = upto-last _ _ _ _ _ (lane c.outer-f.result) c.loop-o.invariant c.loop-o-test.true c.give.ensures (tower-given c.args.axes.now _ _ c.requires.j_bound.2 _ _ _ _ c.outer-f.ensures.holds) (omega arith)
