@@ -47,6 +47,7 @@ pub(crate) fn skipped(w: f32, skipping: bool) -> bool
     skipping && w == 0.0
 }
 
+// Stays: (a) sixteen places and a count, as the library uses no heap.
 // Where skipping is asked for, the inks from the fourth on with a weight other than 0 move up, so that no other is among the first.
 // Answers how many inks there are then. (Each is stored, and the place is taken or not: no branch to be guessed.)
 pub(crate) fn keep(axes: &mut [Axis; 16], n: usize, skipping: bool) -> usize
