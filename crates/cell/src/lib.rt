@@ -20,7 +20,7 @@ pub struct Cell {
 pub fn clip(x: f32) -> Option<f32>
     ensures { result ≡ clip_of x }
 {
-    if x.is_nan() {
+    if x != x {
         return None;
     }
     if x > 1.0 {

@@ -10,6 +10,8 @@ use Rattle.layout.specs.declared.MultidimensionalLut.{MultidimensionalLut}
 use Rattle.layout.specs.Layout.{Laid, laid_in, refused_by}
 use Rattle.layout.proofs.layout.Kinds as layout-kinds
 use Rattle.layout.proofs.layout.Reads as layout-reads
+use Rattle.layout.proofs.MultidimensionalLutDefault.default.Kinds as default-kinds
+use Rattle.layout.proofs.MultidimensionalLutDefault.default.Reads as default-reads
 use Rattle.layout.proofs.filling_sizes.Kinds as filling-sizes-kinds
 use Rattle.layout.proofs.filling_sizes.Reads as filling-sizes-reads
 use Rattle.layout.proofs.is_layout.Kinds as is-layout-kinds
@@ -32,6 +34,9 @@ same_laid (Err e) (Err f) h = ap Err (same_refusal e f (ap (λ (l : Laid). l.ref
 pub layout-unique : OneOutcome 0 layout-kinds.ps layout-kinds.r layout-reads.Post
 layout-unique κs a x y ws vs p q = (same_laid x y (p.answer ∙ sym q.answer), refl)
 
+pub default-unique : OneOutcome 0 default-kinds.ps default-kinds.r default-reads.Post
+default-unique κs a x y ws vs p q = (p ∙ sym q, refl)
+
 pub filling-sizes-unique : OneOutcome 2 filling-sizes-kinds.ps filling-sizes-kinds.r filling-sizes-reads.Post
 filling-sizes-unique κs a x y ws vs p q =
     let row = p.row ∙ sym q.row in
@@ -52,6 +57,9 @@ entry-offset-unique κs a x y ws vs p q = ((λ i. record { 0 = (p ∙ sym q) i }
 -- no `requires`
 pub layout-asks-nothing : (κs : _) (a : _) → layout-reads.Pre κs a
 layout-asks-nothing κs a = tt
+
+pub default-asks-nothing : (κs : _) (a : _) → default-reads.Pre κs a
+default-asks-nothing κs a = tt
 
 pub filling-sizes-asks-nothing : (κs : _) (a : _) → filling-sizes-reads.Pre κs a
 filling-sizes-asks-nothing κs a = tt

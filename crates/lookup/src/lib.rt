@@ -30,9 +30,10 @@ fn write(
     ensures entries { answer.new
         ≡ left (number_in result) (answer_at lut.now table.now inputs.now) lut.now.output_inks answer.old }
 {
+    // Not of zeros alone: those the compiler clears by memset, and the archive of `first` would ask for that from outside.
     let mut cells = [Cell {
         x: 0,
-        x_n: 0,
+        x_n: 1,
         w: 0.0,
     }; 16];
     let inks = &mut cells[..inputs.len()];

@@ -39,19 +39,18 @@ fn value(part: &[f32], inks: &[Cell]) -> f32
     requires { reach (reverse inks.now) < length part.now }
     ensures { result ≡ answer part.now (reverse inks.now) 0 }
 {
-    match inks {
-        [] => part[0],
-        [x, y, z] => three(part, *x, *y, *z),
-        [others @ .., last] => {
-            let lower = value(&part[last.x..], others);
-            let upper = value(&part[last.x_n..], others);
-            if others.len() < 2 {
-                binary32::along(lower, upper, last.w)
-            } else {
-                binary32::lerp(lower, upper, last.w)
-            }
-        }
+    let [others @ .., last] = inks else {
+        return part[0];
+    };
+    if let [x, y, z] = inks {
+        return three(part, *x, *y, *z);
     }
+    let lower = value(&part[last.x..], others);
+    let upper = value(&part[last.x_n..], others);
+    if others.len() < 2 {
+        return binary32::along(lower, upper, last.w);
+    }
+    binary32::lerp(lower, upper, last.w)
 }
 
 // Each of the m answers of the inks.

@@ -24,7 +24,7 @@ unfoldable pub node_entries : ℕ → MultidimensionalLut → List Float → Lis
 node_entries zero lut table coordinates = take lut.output_inks (drop (index (ink_sizes lut) (reverse coordinates) * lut.output_inks) table)
 node_entries (suc r) lut table coordinates = []
 
--- what `node_refusal` owes: its number r
+-- what `check_node` owes: its number r
 pub record NodeRefused (lut : MultidimensionalLut) (table : List Float) (coordinates : List ℕ) (r : ℕ) : Type 0 where
   pub laid : Bool
   pub decides : Decides laid (IsLayout lut)

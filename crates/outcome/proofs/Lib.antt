@@ -1,3 +1,4 @@
 pub mod Decided
 pub mod Refused
 pub mod Numbers
+pub mod Unique

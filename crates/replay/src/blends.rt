@@ -19,14 +19,10 @@ impl<W: Write> Replay<'_, W> {
         });
         let g = list.byte();
         let m = list.number();
-        let entries = list.table(40000)?;
-        let mut left = list.floats()?;
-        let cube = Cube {
-            g,
-            m,
-            entries: &entries,
-        };
-        let answered = cubes::interpolate(method, Inks { red, green, blue }, cube, &mut left);
-        self.out.answer(answered, &left)
+        let entries = list.table(&mut self.room.table);
+        let left = list.floats(&mut self.room.left);
+        let cube = Cube { g, m, entries };
+        let answered = cubes::interpolate(method, Inks { red, green, blue }, cube, left);
+        self.out.answer(answered, left)
     }
 }

@@ -1,6 +1,5 @@
 // Tables of the list: their entries are listed, or made from a seed that counts up.
 use crate::words::Words;
-use std::alloc::AllocError;
 use std::num::nearest_u32_to_f32;
 
 // How entries are given. Made ones are shares of 1, or any bits; the seed is that of the next.
@@ -50,17 +49,19 @@ impl Source {
 
 impl Words<'_> {
     // A count, and a table of as many entries.
-    pub(crate) fn table(&mut self, most: usize) -> Result<Vec<f32>, AllocError> {
-        let count = self.count(most);
+    pub(crate) fn table<'r>(&mut self, room: &'r mut [f32]) -> &'r mut [f32] {
+        let table = self.part(room);
         let mut source = Source::read(self);
-        self.each(count, |list| source.float(list))
+        self.fill(table, |list| source.float(list));
+        table
     }
 
     // A count, and a file's table of as many entries, as their bits, so that a NaN keeps its payload.
-    pub(crate) fn table_bits(&mut self) -> Result<Vec<u32>, AllocError> {
-        let count = self.count(1024);
+    pub(crate) fn table_bits<'r>(&mut self, room: &'r mut [u32]) -> &'r mut [u32] {
+        let table = self.part(room);
         let mut source = Source::read(self);
-        self.each(count, |list| source.bits(list))
+        self.fill(table, |list| source.bits(list));
+        table
     }
 }
 

@@ -16,10 +16,23 @@ use print::Lines;
 use std::io::{self, BufWriter, Read, Write};
 use words::Words;
 
-// What is left of the list, and what is printed. A case reads its words and prints its line.
+// Room for what a case reads. It is made before the first case, so that no case can be out of memory.
+#[derive(Drop)]
+struct Room {
+    table: [f32; 40000],
+    inputs: [f32; 4096],
+    left: [f32; 4096],
+    walked: [f32; 4096],
+    coordinates: [usize; 128],
+    bits: [u32; 1024],
+    bytes: [u8; 4096],
+}
+
+// What is left of the list, room for its cases, and what is printed. A case reads its words and prints its line.
 #[derive(Drop)]
 struct Replay<'a, W: Write> {
     list: Words<'a>,
+    room: Room,
     out: Lines<W>,
 }
 
@@ -49,9 +62,15 @@ fn main(rt: HostRuntime) -> io::Result<()> {
     let mut input = Vec::new(rt.alloc());
     rt.reader().read_to_end(&mut input)?;
     let mut replay = Replay {
-        list: Words {
-            rest: &input,
-            alloc: rt.alloc(),
+        list: Words { rest: &input },
+        room: Room {
+            table: [0.0; 40000],
+            inputs: [0.0; 4096],
+            left: [0.0; 4096],
+            walked: [0.0; 4096],
+            coordinates: [0; 128],
+            bits: [0; 1024],
+            bytes: [0; 4096],
         },
         out: Lines {
             out: BufWriter::new(rt.alloc(), io::writer(&rt))?,

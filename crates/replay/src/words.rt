@@ -1,11 +1,10 @@
 // The words of the list: unsigned, in hex, one to eight digits and a blank or a line's end.
-use std::alloc::{AllocError, Global};
+ghost use Rattle.std.specs.Prelude.{◌≤◌, length};
 
-// What is left of the list, and the allocator for what is made of it.
+// What is left of the list.
 #[derive(Drop)]
 pub(crate) struct Words<'a> {
     pub(crate) rest: &'a [u8],
-    pub(crate) alloc: Global,
 }
 
 // Stays: (d) no cast loses bits here, so that what is left out is said.
@@ -52,48 +51,62 @@ impl Words<'_> {
     }
 
     // The next word as a count, or the most where that is less.
-    pub(crate) fn count(&mut self, most: usize) -> usize {
+    pub(crate) fn count(&mut self, most: usize) -> usize
+        ensures { result ≤ most }
+    {
         self.number().min(most)
     }
 
-    // As many values as the count says, each read by the rule.
-    pub(crate) fn each<T: Copy + Default + Drop, F: FnMut(&mut Words<'_>) -> T>(
+    // A count, and the first places of the room, as many: all of it where the count is larger.
+    pub(crate) fn part<'r, T>(&mut self, room: &'r mut [T]) -> &'r mut [T]
+        ensures { length result.now ≤ length room.old }
+    {
+        let count = self.count(room.len());
+        &mut room[..count]
+    }
+
+    // Each place of a part by the rule, which may read.
+    pub(crate) fn fill<T: Copy, F: FnMut(&mut Words<'_>) -> T>(
         &mut self,
-        count: usize,
+        part: &mut [T],
         mut next: F,
-    ) -> Result<Vec<T>, AllocError>
+    )
         requires { F.IsAlwaysCallable next }
     {
-        let mut all = vec![in self.alloc; T::default(); count]?;
-        for one in all.iter_mut() {
+        for one in part.iter_mut() {
             *one = next(self);
         }
-        Ok(all)
     }
 
     // A count, and as many words' bytes.
-    pub(crate) fn bytes(&mut self) -> Result<Vec<u8>, AllocError> {
-        let count = self.count(4096);
-        self.each(count, |list| list.byte())
+    pub(crate) fn bytes<'r>(&mut self, room: &'r mut [u8]) -> &'r [u8] {
+        let bytes = self.part(room);
+        self.fill(bytes, |list| list.byte());
+        bytes
     }
 
     // A count, and as many words as coordinates.
-    pub(crate) fn coordinates(&mut self) -> Result<Vec<usize>, AllocError> {
-        let count = self.count(128);
-        self.each(count, |list| list.number())
+    pub(crate) fn coordinates<'r>(&mut self, room: &'r mut [usize]) -> &'r [usize] {
+        let coordinates = self.part(room);
+        self.fill(coordinates, |list| list.number());
+        coordinates
     }
 
     // A count, and as many words' floats.
-    pub(crate) fn floats(&mut self) -> Result<Vec<f32>, AllocError> {
-        let count = self.count(4096);
-        self.each(count, |list| list.float())
+    pub(crate) fn floats<'r>(&mut self, room: &'r mut [f32]) -> &'r mut [f32]
+        ensures { length result.now ≤ length room.old }
+    {
+        let floats = self.part(room);
+        self.fill(floats, |list| list.float());
+        floats
     }
 
     // A count, and the byte that as many are all alike.
-    pub(crate) fn alike(&mut self) -> Result<Vec<u8>, AllocError> {
-        let count = self.count(4096);
+    pub(crate) fn alike<'r>(&mut self, room: &'r mut [u8]) -> &'r mut [u8] {
+        let bytes = self.part(room);
         let byte = self.byte();
-        vec![in self.alloc; byte; count]
+        bytes.fill(byte);
+        bytes
     }
 
     // The bytes of a file's next word, the first counting most. After a word 0 stands how many more zeros follow it.
@@ -110,9 +123,8 @@ impl Words<'_> {
     }
 
     // A count, and as many bytes of a file: a word for each four of them.
-    pub(crate) fn file(&mut self) -> Result<Vec<u8>, AllocError> {
-        let count = self.count(4096);
-        let mut file = vec![in self.alloc; 0u8; count]?;
+    pub(crate) fn file<'r>(&mut self, room: &'r mut [u8]) -> &'r [u8] {
+        let file = self.part(room);
         let mut more_zeros = 0;
         for four in file.chunks_mut(4) {
             let word = self.file_word(&mut more_zeros);
@@ -120,6 +132,6 @@ impl Words<'_> {
                 *byte = of_word;
             }
         }
-        Ok(file)
+        file
     }
 }

@@ -43,7 +43,7 @@ impl Axis {
         ensures { result ≡ cell_of self.last self.s index }
     {
         let x = (index as u16) * (self.last as u16) / 255;
-        let x_n = (x + 1).min(self.last as u16);
+        let x_n = (self.last as u16).min(x + 1);
         Cell {
             x: x as usize,
             x_n: x_n as usize,

@@ -5,16 +5,16 @@ use Rattle.lookup.specs.Lookup.{lookup_with}
 use Rattle.lookup.proofs.LastInk.{by_line, by_lerp}
 use Rattle.lookup.proofs.value.+value.Goals as goal
 
-pub returns-in-empty : goal.returns-in-empty
+pub returns-in_default : goal.returns-in_default
 unfolding lookup_with
-returns-in-empty t c = rw (nil_from_length c.args.inks.now (omega arith))
+returns-in_default t c = rw (nil_from_length c.args.inks.now (omega arith))
 
 pub returns-then-others-lt2 : goal.returns-then-others-lt2
 returns-then-others-lt2 t c =
     let some : 0 < length c.args.inks.now = grind arith in
     c.along.ensures ∙ by_line c.args.inks.now _ some c.args.part.now _ _ c.value-lower.ensures c.value-upper.ensures c.if-others-lt2.true
 
-pub returns-else-others-lt2 : goal.returns-else-others-lt2
-returns-else-others-lt2 t c =
+pub returns : goal.returns
+returns t c =
     let many : 4 ≤ length c.args.inks.now = grind arith in
     c.lerp.ensures ∙ by_lerp c.args.inks.now _ (omega arith) c.args.part.now _ _ c.value-lower.ensures c.value-upper.ensures many

@@ -16,7 +16,7 @@ loop-x-preserved c =
     let here : c.loop-x.x-index < length others = c.loop-x-test.true in
     let word = bits_of (get_or others c.loop-x.x-index nan) in
     let with_blank = c.push.ensures ∙ ap (λ (t : List ℕ). t ++ (blank ∷ [])) c.loop-x.invariant.0 in (
-      rw (add-one, blanks-next others c.loop-x.x-index)
+      rw (add-one, blanks-next bits_of others c.loop-x.x-index)
           (simp append_assoc at (c.push_bits-in-loop-x.ensures.bits ∙ ap (λ (t : List ℕ). t ++ word) with_blank)),
       omega (arith, ap length c.push.ensures, length-append c.loop-x.self (blank ∷ [])),
     )
