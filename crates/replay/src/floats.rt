@@ -1,4 +1,6 @@
 // Tables of the list: their entries are listed, or made from a seed that counts up.
+ghost use Rattle.std.specs.Prelude.{◌≤◌, length};
+
 use crate::words::Words;
 use std::num::nearest_u32_to_f32;
 
@@ -49,7 +51,9 @@ impl Source {
 
 impl Words<'_> {
     // A count, and a table of as many entries.
-    pub(crate) fn table<'r>(&mut self, room: &'r mut [f32]) -> &'r mut [f32] {
+    pub(crate) fn table<'r>(&mut self, room: &'r mut [f32]) -> &'r mut [f32]
+        ensures { length result.now ≤ length room.old }
+    {
         let table = self.part(room);
         let mut source = Source::read(self);
         self.fill(table, |list| source.float(list));
@@ -57,7 +61,9 @@ impl Words<'_> {
     }
 
     // A count, and a file's table of as many entries, as their bits, so that a NaN keeps its payload.
-    pub(crate) fn table_bits<'r>(&mut self, room: &'r mut [u32]) -> &'r mut [u32] {
+    pub(crate) fn table_bits<'r>(&mut self, room: &'r mut [u32]) -> &'r mut [u32]
+        ensures { length result.now ≤ length room.old }
+    {
         let table = self.part(room);
         let mut source = Source::read(self);
         self.fill(table, |list| source.bits(list));

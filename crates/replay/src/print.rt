@@ -16,10 +16,10 @@ impl<W: Write> Lines<W> {
         self.out.write_all(&patterns::hex(value))
     }
 
-    // Eight digits after a blank.
+    // Eight digits after a blank, in one piece.
     pub(crate) fn word(&mut self, value: u32) -> io::Result<()> {
-        self.out.write_all(b" ")?;
-        self.digits(value)
+        let [a, b, c, d, e, f, g, h] = patterns::hex(value);
+        self.out.write_all(&[b' ', a, b, c, d, e, f, g, h])
     }
 
     // Each of the values as a word.

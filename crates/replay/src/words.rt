@@ -79,14 +79,18 @@ impl Words<'_> {
     }
 
     // A count, and as many words' bytes.
-    pub(crate) fn bytes<'r>(&mut self, room: &'r mut [u8]) -> &'r [u8] {
+    pub(crate) fn bytes<'r>(&mut self, room: &'r mut [u8]) -> &'r [u8]
+        ensures { length result.now ≤ length room.old }
+    {
         let bytes = self.part(room);
         self.fill(bytes, |list| list.byte());
         bytes
     }
 
     // A count, and as many words as coordinates.
-    pub(crate) fn coordinates<'r>(&mut self, room: &'r mut [usize]) -> &'r [usize] {
+    pub(crate) fn coordinates<'r>(&mut self, room: &'r mut [usize]) -> &'r [usize]
+        ensures { length result.now ≤ length room.old }
+    {
         let coordinates = self.part(room);
         self.fill(coordinates, |list| list.number());
         coordinates
@@ -102,7 +106,9 @@ impl Words<'_> {
     }
 
     // A count, and the byte that as many are all alike.
-    pub(crate) fn alike<'r>(&mut self, room: &'r mut [u8]) -> &'r mut [u8] {
+    pub(crate) fn alike<'r>(&mut self, room: &'r mut [u8]) -> &'r mut [u8]
+        ensures { length result.now ≤ length room.old }
+    {
         let bytes = self.part(room);
         let byte = self.byte();
         bytes.fill(byte);
@@ -123,13 +129,15 @@ impl Words<'_> {
     }
 
     // A count, and as many bytes of a file: a word for each four of them.
-    pub(crate) fn file<'r>(&mut self, room: &'r mut [u8]) -> &'r [u8] {
+    pub(crate) fn file<'r>(&mut self, room: &'r mut [u8]) -> &'r [u8]
+        ensures { length result.now ≤ length room.old }
+    {
         let file = self.part(room);
         let mut more_zeros = 0;
         for four in file.chunks_mut(4) {
             let word = self.file_word(&mut more_zeros);
-            for (byte, of_word) in four.iter_mut().zip(word) {
-                *byte = of_word;
+            for (byte, of_word) in four.iter_mut().zip(&word) {
+                *byte = *of_word;
             }
         }
         file
