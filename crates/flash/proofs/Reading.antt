@@ -1,13 +1,16 @@
--- What reading a file owes, case by case. Block 0: `short-head`, `block-number`, where the number comes from; `head-refused`, `head-laid`, by the answer; `head-number`, the
--- number in an answer. The whole: `head_first`, `rest-number`; `read-refused`, `read_done`; `read_none`, what no refusal says. Assumes nothing.
-use Rattle.std.proofs.Common.{◌≡◌, ℕ, zero, suc, ◌+◌, ◌<◌, ◌≤◌, ltb, List, length, get_or, drop, sym, refl, ap, ◌∙◌, subst, arith, get_or-drop, ltb-false, le-ltb, lt-ltb}
+-- What reading a file owes, case by case. Block 0: `short-head`, where the number comes from; `head-refused`, `head-laid`, by the answer; `head-number`, the number in an
+-- answer; `total_read`, `total_fits`, the total of its record. The whole: `head_first`, `rest-number`; `read-refused`, `read_done`; `read_none`, what no refusal says. Assumes nothing.
+use Rattle.std.specs.Prelude.{Ok}
+use Rattle.std.proofs.Common.{◌≡◌, ℕ, zero, suc, ◌+◌, ◌*◌, ◌<◌, ◌≤◌, ltb, List, length, get_or, drop, sym, refl, ap, ◌∙◌, subst, arith, get_or-drop, ltb-false, le-ltb, lt-ltb}
 use Rattle.outcome.specs.Outcome.{or_else, on_done}
 use Rattle.outcome.proofs.Refused.{refused-first, kept, given, neither, passed}
 use Rattle.lists.specs.Buffer.{written, left}
 use Rattle.lists.proofs.Buffer.{unwritten, length-left}
 use Rattle.lists.proofs.Lists.{length-tabulate, tabulate-bytes}
-use Rattle.layout.specs.Layout.{Laid, refused_by, IsLayout, LaidBy}
+use Rattle.layout.specs.declared.MultidimensionalLut.{MultidimensionalLut}
+use Rattle.layout.specs.Layout.{Laid, limit, refused_by, laid_in, IsLayout, LaidBy, entries}
 use Rattle.layout.proofs.BySizes.{laid-is-layout, laid-zeroed}
+use Rattle.layout.proofs.Laws.{first-filling, entries_fit}
 use Rattle.flash.specs.Refusals.{block_refusal, head_used, inks_in, outputs_in, sizes_in, layout_in, total_in, head_refusal, rest_refusal, read_refusal}
 use Rattle.flash.specs.Read.{FileLaid, entry_in, TableRead}
 
@@ -33,9 +36,6 @@ module _ (file : List ℕ) where
   long-head : 512 ≤ length file → head ≡ or_else block_number (layout_in file).refusal
   unfolding head_refusal
   long-head h = simp (le-ltb (length file) 512 h)
-
-  pub block-number : 512 ≤ length file → (r : ℕ) → r ≡ block_number → (r ≡ 0 → ⊥) → r ≡ head
-  block-number h r is refused = refused-first block_number _ refused is ∙ sym (long-head h)
 
   pub layout-number : 512 ≤ length file → block_number ≡ 0 → (layout_in file).refusal ≡ head
   layout-number h none = sym (long-head h ∙ ap (λ (k : ℕ). or_else k (layout_in file).refusal) none)
@@ -74,6 +74,13 @@ module _ (file : List ℕ) where
 
     pub head-layout : r.refusal ≡ 0 → r ≡ layout_in file
     head-layout none = laid.answer ∙ sym (given head (layout_in file) (refused_by head) (sym none ∙ head-number))
+
+  -- the record has the file's total, as its first filling size and its first size give it
+  pub total_read : (lut : MultidimensionalLut) → FileLaid file (laid_in (Ok lut)) → get_or lut.grid_filling_size 0 0 * get_or lut.grid_sizes 0 0 ≡ total_in file
+  total_read lut laid = first-filling lut (laid.accepted refl) ∙ ap (λ (l : Laid). entries l.lut) (head-layout _ laid refl)
+
+  pub total_fits : (lut : MultidimensionalLut) → FileLaid file (laid_in (Ok lut)) → get_or lut.grid_filling_size 0 0 * get_or lut.grid_sizes 0 0 ≤ limit
+  total_fits lut laid = omega (arith, first-filling lut (laid.accepted refl), entries_fit lut (laid.accepted refl))
 
   -- the layout's record is a layout's, where the file is of bytes
   pub file-is-layout : ((i : ℕ) → get_or file i 0 < 256) → (layout_in file).refusal ≡ 0 → IsLayout (layout_in file).lut
@@ -123,3 +130,6 @@ module _ (file : List ℕ) where
 
       pub read_length : length now ≡ length old
       read_length = ap length read.table ∙ length-left number (entry_in file) (total_in file) old
+
+-- for `using`: the total of a file's record
+pub ruleset totals = (total_read, total_fits)

@@ -29,6 +29,7 @@ pub fn file_length(total: u32) -> u64
 
 // The layout that block 0 asks. Refusals 17 for fewer than 512 bytes, 18, 19, 20 of block 0, then 1, 2, 3, 5. The other blocks need
 // not be there, and are not looked at.
+#[tactic(auto, unfolding(crate::specs::Refusals::head_refusal, layout::specs::Layout::refused_by))]
 pub fn file_layout(file: &[u8]) -> Result<MultidimensionalLut, Refusal>
     ensures { FileLaid file.now (laid_in result) }
 {
@@ -42,6 +43,7 @@ pub fn file_layout(file: &[u8]) -> Result<MultidimensionalLut, Refusal>
 
 // Reads a file: refusals those of `file_layout`, then 17 for the whole length, then 18, 19, 20 block by block, last 8. Answers the
 // layout, and sets the first total places of `bits`. Refused, nothing is written.
+#[tactic(auto, using(crate::proofs::Reading::totals), unfolding(crate::specs::Refusals::read_refusal, layout::specs::Layout::refused_by))]
 pub fn read_table(file: &[u8], bits: &mut [u32]) -> Result<MultidimensionalLut, Refusal>
     ensures { TableRead file.now bits.old (laid_in result) bits.new }
 {

@@ -5,7 +5,7 @@ use Prim.Native.Nat.{ℕ, ◌-◌, ◌*◌, ◌/◌, ◌≤◌, ◌<◌}
 use mathlib.Core.Path.{◌≡◌, refl, sym, ap, ◌∙◌, subst}
 use mathlib.Core.Bool.{true, false, not, ◌||◌}
 use mathlib.Core.List.{List}
-use native.Mathlib.Nat.{mul_comm, mul_assoc, mul-pos, mul-div_cancel}
+use native.Mathlib.Nat.{mul_comm, mul_assoc, mul-pos, mul-div_cancel, le-mul_of_pos_right}
 use native.Mathlib.Omega.{arith}
 use lib.Dec.{ltb, eqb}
 use lib.Ieee.{Float, nan}
@@ -19,8 +19,8 @@ use Rattle.lists.specs.Buffer.{written}
 use Rattle.lists.proofs.Lists.{product-pos}
 use Rattle.lists.proofs.Buffer.{length-left, written_at, written_same}
 use Rattle.layout.specs.declared.MultidimensionalLut.{MultidimensionalLut}
-use Rattle.layout.specs.Layout.{IsLayout, ink_sizes, entries}
-use Rattle.layout.proofs.Laws.{outputs-from, sizes-above, filling-after}
+use Rattle.layout.specs.Layout.{limit, IsLayout, ink_sizes, entries}
+use Rattle.layout.proofs.Laws.{outputs-from, entries_fit, sizes-above, filling-after}
 use Rattle.grid_slab.specs.Slab.{size_of, fewer, slab, is_ink, refusal, SlabCut}
 use Rattle.grid_slab.specs.Runs.{run_of, turns_of, runs_of, cut_entry, CanCut, Fit, Checked}
 use Rattle.grid_slab.proofs.Slabs.{slab-length, table-turns, slab-turns, slab-place}
@@ -102,6 +102,15 @@ module _ (lut : MultidimensionalLut) (j : ℕ) (can : CanCut lut j) where
 
   pub turn-some : 0 < turn
   turn-some = first_pos turn (turns_of lut j) (omega (arith, mul_comm (turns_of lut j) turn, whole-turns, entries-some))
+
+  turns-some : 0 < turns_of lut j
+  turns-some = first_pos (turns_of lut j) turn (omega (arith, whole-turns, entries-some))
+
+  -- a turn's entries are a number of 32 bits
+  pub turn-within : run_of lut j * size_of lut j ≤ limit
+  turn-within =
+      let within : turn ≤ limit = omega (arith, le-mul_of_pos_right turn turns-some, mul_comm (turns_of lut j) turn, whole-turns, entries_fit lut can.is) in
+      subst (λ (run : ℕ). run * size_of lut j ≤ limit) run_is within
 
   pub turns-are : entries lut / turn ≡ turns_of lut j
   turns-are = ap (λ (x : ℕ). x / turn) whole-turns ∙ mul-div_cancel (turns_of lut j) turn-some

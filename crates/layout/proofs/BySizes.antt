@@ -1,7 +1,7 @@
 -- A layout's answer by its sizes and counts: a refusal has a record of zeros; an accepted layout's record is a layout's, and has the sizes and the counts that were asked.
 -- Assumes nothing.
 use Prim.Native.Nat.{ℕ, ◌<◌}
-use mathlib.Core.Path.{◌≡◌, refl, ap, ◌∙◌}
+use mathlib.Core.Path.{◌≡◌, refl, sym, ap, ◌∙◌}
 use mathlib.Core.Bool.{Bool, true, false, not, cond}
 use mathlib.Core.List.{List}
 use native.Mathlib.Omega.{arith}
@@ -9,11 +9,16 @@ use lib.Dec.{T, ltb}
 use lib.ListN.{length, get_or, take}
 use lib.Seq.{get_or-take, length-take-le}
 use lib.Pow.{are_bytes}
+use Rattle.std.specs.Prelude.{Err}
+use Rattle.outcome.specs.declared.Refusal.{Refusal}
+use Rattle.outcome.specs.Refused.{number_of}
+use Rattle.outcome.proofs.Numbers.{not_done}
 use Rattle.lists.specs.Lists.{every, last_first}
 use Rattle.lists.proofs.Lists.{last-first-same}
-use Rattle.layout.specs.Layout.{limit, total, is_count, laid_using, laid_of, record_of, refused_by, IsLayout, ink_sizes}
+use Rattle.layout.specs.Layout.{limit, total, is_count, laid_using, laid_of, laid_in, record_of, refused_by, IsLayout, LaidBy, ink_sizes}
 use Rattle.layout.specs.declared.MultidimensionalLut.{MultidimensionalLut}
 use Rattle.layout.specs.Layout.{Laid}
+use Rattle.layout.specs.Tested.{Tested}
 use Rattle.layout.proofs.Parts.{count-to, places-used, sizes-back}
 use Rattle.layout.proofs.Accepted.{Accepted, done, accepted-of}
 use Rattle.layout.proofs.Facts.{used_sizes}
@@ -37,6 +42,15 @@ laid-zeroed sizes n m =
     (zeroed-or (not (is_count m)) 2 _
     (zeroed-or (not (every (ltb 0) used)) 3 _
     (zeroed-or (ltb limit (total used m)) 5 (done (record_of used n m)) (λ some. absurd (some refl)))))
+
+-- a refusal that the tests give is the layout's answer
+pub refused_laid : (sizes : List ℕ) (n m : ℕ) (e : Refusal) → Tested sizes n m (number_of e) → LaidBy sizes n m (laid_in (Err e))
+unfolding refused_by
+refused_laid sizes n m e tested =
+    record {
+      answer = ap refused_by tested.number ∙ sym (laid-zeroed sizes n m (λ z. not_done e (tested.number ∙ z)));
+      accepted = λ none. absurd (not_done e none);
+    }
 
 -- ---- accepted
 

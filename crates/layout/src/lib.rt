@@ -154,6 +154,7 @@ fn record_of(sizes: &[u8; 16], n: usize, m: usize) -> MultidimensionalLut
 }
 
 // The layout of the first n of sixteen grid sizes, with n input and m output inks.
+#[tactic(auto, using(crate::proofs::BySizes::refused_laid))]
 pub fn layout(sizes: [u8; 16], n: usize, m: usize) -> Result<MultidimensionalLut, Refusal>
     ensures { LaidBy sizes n m (laid_in result) }
 {

@@ -8,20 +8,20 @@ use lib.Seq.{ext_get_or}
 use Rattle.lists.specs.Lists.{tabulate}
 use Rattle.lists.proofs.Lists.{length-tabulate, get_or-tabulate}
 
-module _ {F B : Type 0} (g : Mut F (ℕ × Unit {0}) B) (rule : F → ℕ → B)
-    (calls : (p q : F) (i : ℕ) (y : B) → Called g p (i, tt) y q → (y ≡ rule p i) × (q ≡ p)) (d : B) where
+module _ {F B : Type 0} (g : Mut F (ℕ × Unit {0}) B) (rule : F → ℕ → B) (n : ℕ)
+    (calls : (p q : F) (i : ℕ) (y : B) → i < n → Called g p (i, tt) y q → (y ≡ rule p i) × (q ≡ p)) (d : B) where
   -- the entries from i on
-  entries : (f : F) (ys : List B) (i n : ℕ) → IsFromFnResultFrom g f ys i n → (k : ℕ) → i ≤ k → k < i + n → get_or ys k d ≡ rule f k
-  entries f ys i zero each k from to = absurd (omega arith)
-  entries f ys i (suc n) (q, y, at, called, rest) k from to =
-      let here = calls f q i y called in
+  entries : (f : F) (ys : List B) (i m : ℕ) → i + m ≤ n → IsFromFnResultFrom g f ys i m → (k : ℕ) → i ≤ k → k < i + m → get_or ys k d ≡ rule f k
+  entries f ys i zero within each k from to = absurd (omega arith)
+  entries f ys i (suc m) within (q, y, at, called, rest) k from to =
+      let here = calls f q i y (omega arith) called in
       elim (dec_lt i k) [
-        | yes later ↦ entries q ys (i + 1) n rest k (omega arith) (omega arith) ∙ ap (λ (p : F). rule p k) here.1
+        | yes later ↦ entries q ys (i + 1) m (omega arith) rest k (omega arith) (omega arith) ∙ ap (λ (p : F). rule p k) here.1
         | no now ↦ let same : k ≡ i = omega arith in rw same (at.1 d ∙ here.0)
       ]
 
-  pub from-fn-is : (f : F) (ys : List B) (n : ℕ) → IsFromFnResult g f ys n → ys ≡ tabulate n (rule f)
-  from-fn-is f ys n made =
+  pub from-fn-is : (f : F) (ys : List B) → IsFromFnResult g f ys n → ys ≡ tabulate n (rule f)
+  from-fn-is f ys made =
       ext_get_or d ys (tabulate n (rule f)) (made.long ∙ sym (length-tabulate n (rule f))) (λ k l.
       let below : k < n = omega (arith, made.long) in
-      entries f ys 0 n made.each k (omega arith) (omega arith) ∙ sym (get_or-tabulate n (rule f) k d below))
+      entries f ys 0 n (omega arith) made.each k (omega arith) (omega arith) ∙ sym (get_or-tabulate n (rule f) k d below))

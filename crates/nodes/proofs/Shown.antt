@@ -4,7 +4,10 @@ use Rattle.std.proofs.Common.{length, take, drop, reverse, refl, sym, ap, subst,
 use Rattle.std.proofs.lemmas.List.{length-take-le, length-drop}
 use lib.Ieee.{Float}
 use Rattle.outcome.specs.Outcome.{Decides, on_done}
+use Rattle.outcome.specs.declared.Refusal.{Refusal}
+use Rattle.outcome.specs.Refused.{number_of}
 use Rattle.outcome.proofs.Decided.{decided}
+use Rattle.outcome.proofs.Numbers.{not_done}
 use Rattle.layout.specs.declared.MultidimensionalLut.{MultidimensionalLut}
 use Rattle.layout.specs.Layout.{IsLayout, ink_sizes}
 use Rattle.layout.specs.Order.{index}
@@ -36,6 +39,10 @@ module _ (lut : MultidimensionalLut) (table : List Float) (coordinates : List �
 
   pub shown-nothing : (r : ℕ) → NodeRefused lut table coordinates r → (r ≡ 0 → ⊥) → NodeShown lut table coordinates []
   shown-nothing r refused some = shown-by r refused [] (sym (nothing r some))
+
+  -- a refusal shows nothing
+  pub none_shown : (e : Refusal) → NodeRefused lut table coordinates (number_of e) → NodeShown lut table coordinates []
+  none_shown e refused = shown-nothing (number_of e) refused (not_done e)
 
   abbrev first : ℕ
   first = index (ink_sizes lut) (reverse coordinates) * lut.output_inks

@@ -41,6 +41,7 @@ pub fn node_offset(
 }
 
 // The node's m entries, as the part of the table that holds them.
+#[tactic(auto, using(crate::proofs::Shown::none_shown))]
 pub fn node<'a>(
     lut: MultidimensionalLut,
     table: &'a [f32],

@@ -16,19 +16,12 @@ use Rattle.layout.specs.Order.{index}
 use Rattle.layout.specs.Layout.{Laid, laid_of, laid_in, refused_by, IsLayout, LaidBy, ink_sizes}
 use Rattle.layout.proofs.BySizes.{laid-outputs}
 use Rattle.nodes.specs.Node.{node_refusal, NodeRefused, NodePlaced}
-use Rattle.outcome.proofs.Numbers.{not_done}
-use Rattle.flash.specs.BySizes.{Told}
 use Rattle.tenahvar.specs.Node.{node_number, NodeFound}
 
 -- the number of a record that is none
 pub refused-as : (e : Refusal) (k : ℕ) → (laid_in (Err e)).refusal ≡ k → number_of e ≡ k
 unfolding refused_by
 refused-as e k is = is
-
--- and it is not told
-pub untold : (e : Refusal) (sizes : List ℕ) (n m : ℕ) → Told (laid_in (Err e)).refusal (laid_in (Err e)).lut sizes n m sizes n m
-unfolding refused_by
-untold e sizes n m = record { sizes = kept _ _ _ (not_done e) refl; inks = kept _ _ _ (not_done e) refl; outputs = kept _ _ _ (not_done e) refl }
 
 -- the number that is answered is the record's
 pub number-of-laid : (answer : Result MultidimensionalLut Refusal) → number_in answer ≡ (laid_in answer).refusal

@@ -46,6 +46,7 @@ pub extern "C" fn tenahvar_write_table(
 
 // Writes a record's sizes and counts, where there is one.
 // Stays: (c) the sizes by a name of their own: the check has no proof where a field that is an array is stored straight.
+#[tactic(auto, using(outcome::proofs::Numbers::not_done), unfolding(layout::specs::Layout::refused_by))]
 fn tell(
     read: Result<MultidimensionalLut, Refusal>,
     sizes: &mut [u8; 16],

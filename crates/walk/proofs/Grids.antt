@@ -165,3 +165,10 @@ inks-kept {call = call} ready three at lowest axes steps axes' r kept-are =
       done = array-done ready (length call.inputs.now) refl at lowest.1 axes (steps lowest.0) three axes' r kept-are lowest.0;
       counted = array-reads ready (length call.inputs.now) refl at lowest.1 axes (steps lowest.0) three axes' r kept-are;
     }
+
+-- and where the answers stand in the first k places, m of them
+pub done-to : {call : Call} {at : ℕ} {axes : List Axis} {r : ℕ} → InksKept call at axes r → (k : ℕ) → k ≡ call.m
+    → (old part : List Float) → call.m ≤ length old
+    → Gives (answer (take (length call.table.now - at) (drop at call.table.now)) (steps_at axes 0 r)) (take k old) part
+    → SettledBy call old 0 (part ++ drop k old)
+done-to kept k same = rw same kept.done

@@ -44,6 +44,9 @@ module _ (xs : List Float) where
   pub nan-at : (k : ℕ) → k < length xs → is_nan (get_or xs k nan) ≡ true → some is_nan xs ≡ true
   nan-at k less one = some_at is_nan nan xs k less one
 
+-- for `using`: where one is met, some is
+pub ruleset nans = (nan-at)
+
 -- ---- what is owed where one input is NaN, and where none is
 
 module _ (xs : List Float) (f : ℕ → Float) (m : ℕ) (old : List Float) where

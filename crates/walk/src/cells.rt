@@ -21,6 +21,7 @@ impl Call<'_> {
     }
 
     // The steps and weights of all inks, and how far the lowest corner stands; a NaN input is refused.
+    #[tactic(auto, using(crate::proofs::Reading::nans))]
     pub(crate) fn cells(&self, axes: &mut [Axis; 16]) -> Result<usize, Refusal>
         requires { Ready self.now }
         ensures lowest { UnlessNan (some is_nan self.now.inputs.now) (lows (inks_of self.now)) result }

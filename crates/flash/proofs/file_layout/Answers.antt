@@ -1,13 +1,10 @@
 -- Each part of the number is the definition's.
 use Rattle.std.proofs.Common.{◌≡◌, ℕ, List, refl, sym, ap, ◌∙◌, subst, arith}
-use Rattle.std.proofs.lemmas.Result.{err_from_is_err_and}
-use Rattle.outcome.specs.Refused.{number_of}
-use Rattle.outcome.proofs.Numbers.{not_done}
 use Rattle.lists.specs.Bytes.{first_sixteen}
 use Rattle.lists.proofs.Lists.{rest-is}
 use Rattle.layout.specs.Layout.{laid_in, LaidBy}
 use Rattle.flash.specs.Refusals.{block_refusal, inks_in, outputs_in}
-use Rattle.flash.proofs.Reading.{block_number, short-head, block-number, head-refused, head-laid}
+use Rattle.flash.proofs.Reading.{block_number, short-head, head-refused, head-laid}
 use Rattle.flash.proofs.file_layout.Goals as goal
 use Rattle.flash.proofs.file_layout.Goals.{After-head_used}
 
@@ -17,14 +14,6 @@ block-is c r is = is ∙ ap (block_refusal c.args.file.now 0 0) c.head_used.ensu
 
 pub returns-then-file-lt512 : goal.returns-then-file-lt512
 returns-then-file-lt512 c = head-refused c.args.file.now 17 (λ e. omega arith) (short-head c.args.file.now c.if-file-lt512.true) _ refl
-
-pub returns-in_err-check_block : goal.returns-in_err-check_block
-returns-in_err-check_block c =
-    let file = c.args.file.now in
-    let e = c.in_err-check_block.field-0.0 in
-    let here = block-is (goal.at.returns-in_err-check_block c).After-head_used (number_of e) c.in_err-check_block.ensures in
-    let p = err_from_is_err_and c.from_residual.result c.from_residual.ensures.1 in
-    rw (p.1, p.2) (head-refused file (number_of e) (not_done e) (block-number file c.if-file-lt512.false (number_of e) here (not_done e)) _ refl)
 
 pub returns : goal.returns
 returns c =

@@ -3,27 +3,20 @@ use Rattle.std.proofs.Common.{◌≡◌, ℕ, ◌≤◌, length, refl, sym, ap, 
 use Rattle.std.proofs.lemmas.Result.{err_from_is_err_and}
 use Rattle.outcome.specs.Refused.{number_of}
 use Rattle.outcome.proofs.Numbers.{not_done}
-use Rattle.layout.specs.Layout.{Laid, limit, refused_by, IsLayout, entries}
-use Rattle.layout.proofs.Laws.{first-filling, entries_fit}
+use Rattle.layout.specs.Layout.{limit, refused_by}
 use Rattle.lists.specs.Buffer.{written}
 use Rattle.flash.specs.Refusals.{total_in, head_refusal, rest_refusal, read_refusal}
 use Rattle.flash.specs.Read.{entry_in}
 use Rattle.flash.proofs.Bodies.{rest-none}
-use Rattle.flash.proofs.Reading.{head-number, head-layout, head_first, rest-number, read-refused, read_done}
+use Rattle.flash.proofs.Reading.{head-number, head-layout, total_read, total_fits, head_first, rest-number, read-refused, read_done}
 use Rattle.flash.proofs.read_table.Goals as goal
 use Rattle.flash.proofs.read_table.Goals.{After-entry_count-total}
 
-is-layout : (c : After-entry_count-total) → IsLayout c.in_ok-lut.lut
-is-layout c = c.in_ok-lut.ensures.accepted refl
-
 within : (c : After-entry_count-total) → c.entry_count-total.result ≤ limit
-within c = omega (arith, c.entry_count-total.ensures ∙ first-filling _ (is-layout c), entries_fit _ (is-layout c))
+within c = omega (arith, c.entry_count-total.ensures, total_fits _ c.in_ok-lut.lut c.in_ok-lut.ensures)
 
 total-is : (c : After-entry_count-total) → c.entry_count-total.result ≡ total_in c.args.file.now
-total-is c =
-    c.entry_count-total.ensures
-    ∙ first-filling _ (is-layout c)
-    ∙ ap (λ (l : Laid). entries l.lut) (head-layout _ _ c.in_ok-lut.ensures refl)
+total-is c = c.entry_count-total.ensures ∙ total_read _ c.in_ok-lut.lut c.in_ok-lut.ensures
 
 -- what the rest gives is what the whole file gives
 number_is : (c : After-entry_count-total) (r : ℕ) →
@@ -42,9 +35,6 @@ returns-in_err-lut c =
     let here : number_of e ≡ head_refusal a.file.now = head-number _ _ c.in_err-lut.ensures in
     let p = err_from_is_err_and c.from_residual.result c.from_residual.ensures.1 in
     rw (p.1, p.2) (read-refused a.file.now a.bits.now (number_of e) (not_done e) (here ∙ head_first a.file.now (length a.bits.now) (λ z. not_done e (here ∙ z))) _ refl)
-
-pub check_rest-requires : goal.check_rest-requires
-check_rest-requires c = within (goal.at.check_rest-requires c).After-entry_count-total
 
 pub returns-in_err-check_rest : goal.returns-in_err-check_rest
 returns-in_err-check_rest c =

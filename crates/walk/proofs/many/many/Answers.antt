@@ -1,6 +1,6 @@
 -- `walk::many::many`: the inks that are kept, from the lowest corner on.
 use Rattle.std.proofs.Common.{arith, ◌∙◌}
-use Rattle.walk.proofs.Grids.{inks-kept, prefix-inside}
+use Rattle.walk.proofs.Grids.{inks-kept, done-to, prefix-inside}
 use Rattle.walk.proofs.many.many.Goals as goal
 
 pub offset_bounds-call-at : goal.offset_bounds-call-at
@@ -26,12 +26,12 @@ blend-requires-clause-weighed c i h =
 pub blend-requires-clause-out_in_bounds : goal.blend-requires-clause-out_in_bounds
 blend-requires-clause-out_in_bounds c =
     let e = c.in_ok-at.ensures in
-    prefix-inside _ _ c.requires.room _ _ (inks-kept c.requires.ready c.requires.some _ e.lowest _ e.steps _ _ c.keep-n.ensures.inks).reaches
+    let k = inks-kept c.requires.ready c.requires.some _ e.lowest _ e.steps _ _ c.keep-n.ensures.inks in prefix-inside _ _ (omega arith) _ _ (omega (arith, k.reaches))
 
 pub returns-clause-settled : goal.returns-clause-settled
 returns-clause-settled c =
     let e = c.in_ok-at.ensures in
-    (inks-kept c.requires.ready c.requires.some _ e.lowest _ e.steps _ _ c.keep-n.ensures.inks).done _ _ c.requires.room c.blend.ensures
+    let k = inks-kept c.requires.ready c.requires.some _ e.lowest _ e.steps _ _ c.keep-n.ensures.inks in done-to k _ (omega arith) _ _ c.requires.room c.blend.ensures
 
 pub returns-clause-counted : goal.returns-clause-counted
 returns-clause-counted c =
